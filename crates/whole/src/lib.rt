@@ -1,0 +1,50 @@
+// Whole roots, and what document 01 makes of them.
+ghost use mathlib.Core.Path.{_≡_};
+ghost use mathlib.Core.Bool.{false};
+ghost use Prim.Native.Nat.{_^_, _<_};
+ghost use lib.Ieee.Exact.{HasValue};
+ghost use Rattle.whole.specs.Root.{Root};
+ghost use Rattle.whole.specs.Greatest.{greatestOf};
+ghost use Rattle.whole.specs.Nearest.{nearestOf};
+ghost use Rattle.whole.specs.Millimetres.{millimetresOf};
+
+// The root of n, rounded down. The interval from low up to high, which holds it, is halved until it is one number.
+pub fn root(n: u64) -> u64
+    ensures { λ r. ⌜ Root n r ⌝ }
+{
+    let mut low: u64 = 0;
+    let mut high: u64 = 4294967296;
+    while 1 < high - low {
+        let mid = low + (high - low) / 2;
+        if mid * mid <= n {
+            low = mid;
+        } else {
+            high = mid;
+        }
+    }
+    low
+}
+
+// The greatest m with m² · a <= n.
+pub fn greatest(a: u64, n: u64) -> u64
+    requires { ⌜ 0 < a ⌝ }
+    ensures { λ r. ⌜ (r ≡ greatestOf a n) × (r < 2 ^ 32) ⌝ }
+{
+    root(n / a)
+}
+
+// The root of q to the nearest whole number.
+pub fn nearest(q: u64) -> u64
+    ensures { λ r. ⌜ r ≡ nearestOf q ⌝ }
+{
+    let r = root(q);
+    if q - r * r <= r { r } else { r + 1 }
+}
+
+// m 1,024ths of a millimetre, as a double.
+pub fn millimetres(m: u64) -> f64
+    requires { ⌜ m < 2 ^ 53 ⌝ }
+    ensures { λ r. ⌜ (r ≡ millimetresOf m) × HasValue r false m 1024 ⌝ }
+{
+    m as f64 / 1024.0
+}
