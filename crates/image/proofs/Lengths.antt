@@ -1,0 +1,134 @@
+-- Laws of lengths and words.
+-- Assumes nothing.
+use Prim.Native.Nat.{ℕ, zero, suc, _+_, _-_, _*_, _^_, _≤_, _<_}
+use native.Mathlib.Omega.{arith}
+use mathlib.Core.Path.{_≡_, refl, sym, ap, _∙_}
+use mathlib.Core.Logic.{_⊎_, ⊎-elim}
+use mathlib.Core.List.{List, [], _∷_, _++_}
+use lib.ListN.{length, getD}
+use lib.Dec.{leb}
+use lib.IntN.{ℤ, pos, negsuc, natAbs, _-ℤ_, subℕ}
+use borrow.Author.Tests.{lt-ltb, le-ltb, lt-leb}
+use Rattle.integers.specs.Ring.{minus-minus}
+use Rattle.integers.specs.Diff.{bias, bias-back, bias-le, minus-sub, sub-ge, sub-lt, sub-eq, abs-minus, ≤-or-<}
+use Rattle.paper.specs.Units.{Triple, Terms, approximate, upTo}
+use Rattle.paper.specs.Figures.{along}
+use Rattle.image.specs.Lengths.{len, word, wordOr, triple, tripleAt, tripleWords, termsOf, termWords}
+use Rattle.image.specs.Places.{axisOf}
+
+-- ---- both ways
+
+pub word-len : (w : ℕ) → word (len w) ≡ w
+unfolding word len
+word-len w =
+    ⊎-elim
+    (λ (h : 1000000000000 ≤ w). rw (sub-ge w 1000000000000 h) (omega arith))
+    (λ (h : w < 1000000000000). rw (sub-lt w 1000000000000 h) (omega arith))
+    (≤-or-< w 1000000000000)
+
+pub len-word : (z : ℤ) → natAbs z ≤ 1000000000000 → len (word z) ≡ z
+unfolding word len
+len-word z h = sym (bias-back 1000000000000 z h)
+
+pub word-not-zero : (z : ℤ) → natAbs z < 1000000000000 → word z ≡ 0 → ⊥
+unfolding word
+word-not-zero (pos n) h e = omega arith
+word-not-zero (negsuc n) h e = omega arith
+
+pub word-small : (z : ℤ) → natAbs z ≤ 1000000000000 → word z < 2 ^ 64
+unfolding word
+word-small z h = omega (arith, bias-le 1000000000000 1000000000000 z h)
+
+-- a word whose length is short is below 2·10^12
+pub len-bound : (w : ℕ) → natAbs (len w) < 1000000000000 → w < 2000000000000
+unfolding word
+len-bound w h = omega (arith, word-len w, bias-le 1000000000000 999999999999 (len w) (omega arith))
+
+-- ---- a number of any size
+
+pub wordOr-word : (x : ℤ) → natAbs x < 1000000000000 → wordOr x ≡ word x
+unfolding wordOr
+wordOr-word x h = rw (lt-ltb _ _ h)
+
+pub wordOr-far : (x : ℤ) → 1000000000000 ≤ natAbs x → wordOr x ≡ 0
+unfolding wordOr
+wordOr-far x h = rw (le-ltb _ _ h)
+
+-- a test that no number of 10^12 or more passes is the same of a number and of its word
+pub of-word : {A : Type 0} (f : ℤ → A) (nil : A) → ((z : ℤ) → 1000000000000 ≤ natAbs z → f z ≡ nil) → (x : ℤ) → f (len (wordOr x)) ≡ f x
+unfolding len
+of-word f nil far x =
+    ⊎-elim
+    (λ (k : 1000000000000 ≤ natAbs x). rw (wordOr-far x k) (far (len 0) (omega (arith, zero-len)) ∙ sym (far x k)))
+    (λ (k : natAbs x < 1000000000000). rw (wordOr-word x k, len-word x (omega arith)))
+    (≤-or-< (natAbs x) 1000000000000)
+  where
+    zero-len : natAbs (len 0) ≡ 1000000000000
+    zero-len = refl
+
+-- ---- differences
+
+pub len-minus : (a b : ℕ) → len a -ℤ len b ≡ subℕ a b
+unfolding len
+len-minus a b =
+    rw (← minus-sub a 1000000000000, ← minus-sub b 1000000000000)
+    (minus-minus (pos a) (pos b) (pos 1000000000000) ∙ minus-sub a b)
+
+pub len-up : (n : ℕ) → len (n + 1000000000000) ≡ pos n
+unfolding len
+len-up n = sub-ge (n + 1000000000000) 1000000000000 (omega arith) ∙ ap pos (omega arith)
+
+pub len-pos : (w : ℕ) → 1000000000000 ≤ w → len w ≡ pos (w - 1000000000000)
+unfolding len
+len-pos w h = sub-ge w 1000000000000 h
+
+-- a difference of two lengths is the length of a word
+pub len-difference : (a b : ℕ) → b ≤ a + 1000000000000 → len (a + 1000000000000 - b) ≡ len a -ℤ len b
+unfolding len
+len-difference a b h = sub-eq (a + 1000000000000 - b) 1000000000000 a b (omega arith) ∙ sym (len-minus a b)
+
+-- an offset, kept as a number from 0 to 200,000
+pub len-offset : (z Z : ℕ) → Z ≤ z + 100000 → len z -ℤ len Z ≡ pos (z + 100000 - Z) -ℤ pos 100000
+len-offset z Z h = len-minus z Z ∙ sub-eq z Z (z + 100000 - Z) 100000 (omega arith) ∙ sym (minus-sub (z + 100000 - Z) 100000)
+
+-- ---- x, y, h together, and the terms
+
+pub along-at : (l : List ℕ) (m a : ℕ) → a < 3 → along (axisOf a) (tripleAt l m) ≡ len (getD l (m + a) 0)
+unfolding tripleAt
+along-at l m zero h = ap (λ (k : ℕ). len (getD l k 0)) (omega arith)
+along-at l m (suc zero) h = refl
+along-at l m (suc (suc zero)) h = refl
+along-at l m (suc (suc (suc a))) h = absurd (omega arith)
+
+pub point-at : (t : List ℕ) (k : ℕ) → 1 ≤ k → k ≤ 2 → approximate (termsOf t) k ≡ tripleAt t (6 + (k - 1) * 3)
+unfolding termsOf
+point-at t zero h g = absurd (omega arith)
+point-at t (suc zero) h g = refl
+point-at t (suc (suc zero)) h g = refl
+point-at t (suc (suc (suc k))) h g = absurd (omega arith)
+
+pub length-terms : (t : Terms) → length (termWords t) ≡ 12
+unfolding termWords tripleWords
+length-terms t = refl
+
+twelve : (t : List ℕ) → length t ≡ 12
+    → getD t 0 0 ∷ getD t 1 0 ∷ getD t 2 0 ∷ getD t 3 0 ∷ getD t 4 0 ∷ getD t 5 0 ∷ getD t 6 0 ∷ getD t 7 0 ∷ getD t 8 0 ∷ getD t 9 0 ∷ getD t 10 0 ∷ getD t 11 0 ∷ [] ≡ t
+twelve (a ∷ b ∷ c ∷ d ∷ e ∷ f ∷ g ∷ h ∷ i ∷ j ∷ k ∷ l ∷ []) n = refl
+twelve (a ∷ b ∷ c ∷ d ∷ e ∷ f ∷ g ∷ h ∷ i ∷ j ∷ k ∷ l ∷ m ∷ r) n = absurd (omega arith)
+twelve [] n = absurd (omega arith)
+twelve (a ∷ []) n = absurd (omega arith)
+twelve (a ∷ b ∷ []) n = absurd (omega arith)
+twelve (a ∷ b ∷ c ∷ []) n = absurd (omega arith)
+twelve (a ∷ b ∷ c ∷ d ∷ []) n = absurd (omega arith)
+twelve (a ∷ b ∷ c ∷ d ∷ e ∷ []) n = absurd (omega arith)
+twelve (a ∷ b ∷ c ∷ d ∷ e ∷ f ∷ []) n = absurd (omega arith)
+twelve (a ∷ b ∷ c ∷ d ∷ e ∷ f ∷ g ∷ []) n = absurd (omega arith)
+twelve (a ∷ b ∷ c ∷ d ∷ e ∷ f ∷ g ∷ h ∷ []) n = absurd (omega arith)
+twelve (a ∷ b ∷ c ∷ d ∷ e ∷ f ∷ g ∷ h ∷ i ∷ []) n = absurd (omega arith)
+twelve (a ∷ b ∷ c ∷ d ∷ e ∷ f ∷ g ∷ h ∷ i ∷ j ∷ []) n = absurd (omega arith)
+twelve (a ∷ b ∷ c ∷ d ∷ e ∷ f ∷ g ∷ h ∷ i ∷ j ∷ k ∷ []) n = absurd (omega arith)
+
+-- words to terms to words, whatever the words
+pub words-terms : (t : List ℕ) → length t ≡ 12 → termWords (termsOf t) ≡ t
+unfolding termWords termsOf tripleWords tripleAt
+words-terms t n = simp word-len (twelve t n)

@@ -1,0 +1,43 @@
+-- The thirty places of a book as ninety words, in sheet order: three words each, nothing where all three are 0.
+use Prim.Native.Nat.{ℕ, zero, suc, _+_}
+use mathlib.Core.Bool.{Bool, cond, _&&_}
+use mathlib.Core.Option.{none, some}
+use mathlib.Core.List.{List, [], _∷_, _++_}
+use lib.ListN.{getD, drop}
+use lib.Dec.{eqb}
+use Rattle.paper.specs.Procedure.{PLACES}
+use Rattle.paper.specs.Units.{Spot, Places}
+use Rattle.paper.specs.Figures.{Axis, x-axis, y-axis, h-axis}
+use Rattle.image.specs.Lengths.{triple, tripleWords}
+
+abbrev pub allZero : ℕ → ℕ → ℕ → Bool
+allZero x y h = eqb x 0 && (eqb y 0 && eqb h 0)
+
+-- any other three words are a reading, nonsense included: nonsense is far from its point
+unfoldable pub spotOf : ℕ → ℕ → ℕ → Spot
+spotOf x y h = cond (allZero x y h) none (some (triple x y h))
+
+abbrev pub spotAt : List ℕ → ℕ → Spot
+spotAt l m = spotOf (getD l m 0) (getD l (m + 1) 0) (getD l (m + 2) 0)
+
+-- the first n places
+unfoldable pub spots : ℕ → List ℕ → Places
+spots zero l = []
+spots (suc n) l = spotAt l 0 ∷ spots n (drop 3 l)
+
+unfoldable pub placesOf : List ℕ → Places
+placesOf l = spots PLACES l
+
+unfoldable pub spotWords : Spot → List ℕ
+spotWords none = 0 ∷ 0 ∷ 0 ∷ []
+spotWords (some v) = tripleWords v
+
+unfoldable pub cellsOf : Places → List ℕ
+cellsOf [] = []
+cellsOf (v ∷ l) = spotWords v ++ cellsOf l
+
+-- the axes in the order of the words
+abbrev pub axisOf : ℕ → Axis
+axisOf zero = x-axis
+axisOf (suc zero) = y-axis
+axisOf (suc (suc a)) = h-axis
