@@ -1,13 +1,18 @@
 # README's two commands: `make evaluate FILE=..` and `make test`.
 .POSIX:
-.PHONY: evaluate test clean
+.PHONY: evaluate test rust-tests clean
 
-# The program on one field file comes with the crate `evaluate`; until then this computes the marked examples K1 to K10.
+FILE = examples/example.field
+
+# The second implementation answers until the proved program stands.
 evaluate:
-	@rt check paper
+	@cd rust && cargo run -q --offline --release --bin second_evaluate < ../$(FILE)
 
-test:
+test: rust-tests
 	@rt ci
 
+rust-tests:
+	@cd rust && cargo test -q --offline --release
+
 clean:
-	rm -rf target
+	rm -rf target rust/target

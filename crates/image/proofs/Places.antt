@@ -13,9 +13,10 @@ use lib.IntN.{natAbs}
 use borrow.Author.Tests.{ne-eqb, eqb-true}
 use Rattle.words.specs.Paste.{pasted}
 use Rattle.paper.specs.Procedure.{PLACES}
-use Rattle.paper.specs.Units.{Triple, Spot, Places, isEmpty}
+use Rattle.paper.specs.Units.{Place, inSheet, number, Triple, Spot, Places, isEmpty}
+use Rattle.paper.proofs.Tests.{below}
 use Rattle.image.specs.Lengths.{len, word, triple, tripleWords}
-use Rattle.image.specs.Places.{allZero, spotOf, spotAt, spots, placesOf, spotWords, cellsOf}
+use Rattle.image.specs.Places.{allZero, spotOf, spotAt, spots, placesOf, spotWords, cellsOf, placeOf}
 use Rattle.image.proofs.Lengths.{word-len, len-word, word-not-zero}
 
 -- ---- one place
@@ -178,3 +179,21 @@ cells-three (v ∷ l) (suc p) h = rw (three-on p) (step v (cells-three l p (omeg
     step : (v : Spot) → take 3 (drop (p * 3) (cellsOf l)) ≡ spotWords (getD l p none) → take 3 (drop (suc (suc (suc (p * 3)))) (spotWords v ++ cellsOf l)) ≡ spotWords (getD l p none)
     step none i = i
     step (some r) i = i
+
+-- ---- the number of a place
+
+pub place-out : (p : Place) → PLACES ≤ placeOf p → inSheet p ≡ false
+unfolding placeOf
+place-out p h = go (inSheet p) refl h
+  where
+    go : (q : Bool) → inSheet p ≡ q → PLACES ≤ cond q (number p) PLACES → q ≡ false
+    go false e k = refl
+    go true e k = absurd (omega (arith, below p e))
+
+pub place-in : (p : Place) → placeOf p < PLACES → (inSheet p ≡ true) × (placeOf p ≡ number p)
+unfolding placeOf
+place-in p h = go (inSheet p) h
+  where
+    go : (q : Bool) → cond q (number p) PLACES < PLACES → (q ≡ true) × (cond q (number p) PLACES ≡ number p)
+    go true k = (refl, refl)
+    go false k = absurd (omega arith)

@@ -6,7 +6,7 @@ use mathlib.Core.List.{List, [], _∷_, _++_}
 use lib.ListN.{getD, drop}
 use lib.Dec.{eqb}
 use Rattle.paper.specs.Procedure.{PLACES}
-use Rattle.paper.specs.Units.{Spot, Places}
+use Rattle.paper.specs.Units.{Place, inSheet, number, Spot, Places}
 use Rattle.paper.specs.Figures.{Axis, x-axis, y-axis, h-axis}
 use Rattle.image.specs.Lengths.{triple, tripleWords}
 
@@ -41,3 +41,7 @@ abbrev pub axisOf : ℕ → Axis
 axisOf zero = x-axis
 axisOf (suc zero) = y-axis
 axisOf (suc (suc a)) = h-axis
+
+-- the number of a place; the number of places where it is not in the sheet
+unfoldable pub placeOf : Place → ℕ
+placeOf p = cond (inSheet p) (number p) PLACES

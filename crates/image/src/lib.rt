@@ -1,1 +1,53 @@
-// What the words of a book mean: see specs/. No code.
+// Numbers of any size to what the words of a book hold, and back.
+ghost use mathlib.Core.Path.{_≡_};
+ghost use Prim.Native.Nat.{_<_};
+ghost use Rattle.image.specs.Lengths.{len, wordOr};
+ghost use Rattle.image.specs.Places.{placeOf};
+use paper::Procedure;
+
+// The word of a length; 0 for a number that is no length.
+pub fn word_of(x: i64) -> u64
+    ensures { λ r. ⌜ r ≡ wordOr x ⌝ }
+{
+    if x < -999999999999 {
+        return 0;
+    }
+    if 999999999999 < x {
+        return 0;
+    }
+    (x + 1000000000000) as u64
+}
+
+// The length of a word.
+pub fn length_of(w: u64) -> i64
+    requires { ⌜ w < 2000000000000 ⌝ }
+    ensures { λ r. ⌜ r ≡ len w ⌝ }
+{
+    (w as i64) - 1000000000000
+}
+
+// The number of a place in sheet order, from 0; the number of places where it is none.
+pub fn place_of(series: u64, set: u64, point: u64) -> usize
+    ensures { λ r. ⌜ r ≡ placeOf (record { series = series; set = set; point = point }) ⌝ }
+{
+    if series < 1 {
+        return Procedure::PLACES;
+    }
+    if series > Procedure::SERIES as u64 {
+        return Procedure::PLACES;
+    }
+    if set < 1 {
+        return Procedure::PLACES;
+    }
+    if set > Procedure::SETS as u64 {
+        return Procedure::PLACES;
+    }
+    if point < 1 {
+        return Procedure::PLACES;
+    }
+    if point > Procedure::POINTS as u64 {
+        return Procedure::PLACES;
+    }
+    let round = (series - 1) as usize * Procedure::SETS + (set - 1) as usize;
+    round * Procedure::POINTS + (point - 1) as usize
+}

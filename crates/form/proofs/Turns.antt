@@ -1,0 +1,160 @@
+-- What each turn of the form's loops says.
+-- Assumes nothing.
+use Prim.Native.Nat.{ℕ, zero, suc, _+_, _-_, _*_, _≤_, _<_}
+use native.Mathlib.Omega.{arith}
+use native.Mathlib.Numerals.{add-one}
+use mathlib.Core.Path.{_≡_, refl, sym, ap, _∙_}
+use mathlib.Core.Logic.{_⊎_, ⊎-elim}
+use mathlib.Core.Bool.{Bool, true, false, not, _&&_, _||_}
+use mathlib.Core.Option.{none, some}
+use mathlib.Core.List.{List, [], _∷_}
+use lib.ListN.{length, getD, set, drop, drop-of-length-le}
+use lib.Seq.{drop-cons, drop-drop, getD-drop}
+use lib.Dec.{eqb, ltb}
+use borrow.Author.Tests.{lt-ltb, le-ltb, ne-eqb}
+use Rattle.integers.specs.Diff.{≤-or-<}
+use Rattle.words.specs.Paste.{pasted}
+use Rattle.paper.specs.Procedure.{PLACES}
+use Rattle.paper.specs.Units.{Terms, Spot, Places, isEmpty, nearAt, allNear}
+use Rattle.paper.specs.TurnedAway.{some?}
+use Rattle.paper.specs.Books.{Change, make}
+use Rattle.paper.specs.Form.{fits, takeable}
+use Rattle.paper.proofs.Form.{fit-reaches}
+use Rattle.image.specs.Places.{allZero, spotOf, spotAt, spots, placesOf}
+use Rattle.image.specs.Changes.{change, entries, zeros}
+use Rattle.image.proofs.Places.{place-at, spots-set, empty-spot}
+
+-- ---- words not used
+
+pub zeros-on : (l : List ℕ) (i : ℕ) → i < length l → getD l i 0 ≡ 0 → zeros (drop i l) ≡ zeros (drop (i + 1) l)
+unfolding zeros
+zeros-on l i h e = rw (drop-cons l i 0 h, e, add-one i)
+
+pub zeros-stop : (l : List ℕ) (i : ℕ) → i < length l → (getD l i 0 ≡ 0 → ⊥) → zeros (drop i l) ≡ false
+unfolding zeros
+zeros-stop l i h f = rw (drop-cons l i 0 h, ne-eqb (getD l i 0) 0 f)
+
+pub zeros-end : (l : List ℕ) (i : ℕ) → length l ≤ i → zeros (drop i l) ≡ true
+unfolding zeros
+zeros-end l i h = rw (drop-of-length-le l {i = i} h)
+
+-- ---- the places from p on
+
+module _ (cells : List ℕ) where
+  abbrev from : ℕ → Places
+  from p = spots (PLACES - p) (drop (p * 3) cells)
+
+  start : placesOf cells ≡ from 0
+  unfolding placesOf
+  start = refl
+
+  turn : (p : ℕ) → p < PLACES → from p ≡ spotAt cells (p * 3) ∷ from (p + 1)
+  unfolding spots
+  turn p h =
+      let e : PLACES - p ≡ suc (PLACES - (p + 1)) = omega arith in
+      let z : p * 3 + 0 ≡ p * 3 = omega arith in
+      let g : p * 3 + 3 ≡ (p + 1) * 3 = omega arith in
+      rw (e, getD-drop (p * 3) cells 0 0, getD-drop (p * 3) cells 1 0, getD-drop (p * 3) cells 2 0, drop-drop 3 (p * 3) cells, z, g)
+
+  over : (p : ℕ) → p ≡ PLACES → from p ≡ []
+  unfolding spots
+  over p e = rw e
+
+  abbrev pub nearFrom : Terms → ℕ → Bool
+  nearFrom t p = allNear t p (from p)
+
+  module _ (t : Terms) where
+    pub near-start : allNear t 0 (placesOf cells) ≡ nearFrom t 0
+    near-start = ap (allNear t 0) start
+
+    pub near-on : (p : ℕ) → p < PLACES → nearAt t p (spotAt cells (p * 3)) ≡ true → nearFrom t p ≡ nearFrom t (p + 1)
+    unfolding allNear
+    near-on p h e = let f : suc p ≡ p + 1 = omega arith in rw (turn p h, e, f)
+
+    pub near-stop : (p : ℕ) → p < PLACES → nearAt t p (spotAt cells (p * 3)) ≡ false → nearFrom t p ≡ false
+    unfolding allNear
+    near-stop p h e = rw (turn p h, e)
+
+    pub near-end : (p : ℕ) → p ≡ PLACES → nearFrom t p ≡ true
+    unfolding allNear
+    near-end p e = rw (over p e)
+
+  abbrev pub emptyFrom : ℕ → Bool
+  emptyFrom p = some? isEmpty (from p)
+
+  pub empty-start : some? isEmpty (placesOf cells) ≡ emptyFrom 0
+  empty-start = ap (some? isEmpty) start
+
+  pub empty-on : (p : ℕ) → p < PLACES → isEmpty (spotAt cells (p * 3)) ≡ false → emptyFrom p ≡ emptyFrom (p + 1)
+  empty-on p h e = rw (turn p h, e)
+
+  pub empty-stop : (p : ℕ) → p < PLACES → isEmpty (spotAt cells (p * 3)) ≡ true → emptyFrom p ≡ true
+  empty-stop p h e = rw (turn p h, e)
+
+  pub empty-end : (p : ℕ) → p ≡ PLACES → emptyFrom p ≡ false
+  empty-end p e = rw (over p e)
+
+-- ---- a kept change
+
+module _ (t : Terms) (cells : List ℕ) (p x y h : ℕ) where
+  abbrev c : Change
+  c = change p (spotOf x y h)
+
+  pub change-outside : PLACES ≤ p → false ≡ fits t (placesOf cells) c
+  unfolding fits
+  change-outside k = rw (le-ltb p PLACES k)
+
+  module _ (k : p < PLACES) where
+    pub change-far : nearAt t p (spotOf x y h) ≡ false → false ≡ fits t (placesOf cells) c
+    unfolding fits
+    change-far e = rw (lt-ltb p PLACES k, e)
+
+    module _ (e : nearAt t p (spotOf x y h) ≡ true) where
+      pub change-full : allZero x y h ≡ false → true ≡ fits t (placesOf cells) c
+      unfolding fits
+      change-full z = rw (lt-ltb p PLACES k, e, empty-spot x y h, z)
+
+      pub change-empty : (b : Bool) → allZero x y h ≡ true → isEmpty (spotAt cells (p * 3)) ≡ b → not b ≡ fits t (placesOf cells) c
+      unfolding fits
+      change-empty b z f = rw (lt-ltb p PLACES k, e, empty-spot x y h, z, place-at cells p k, f)
+
+-- ---- the kept changes from j on, where `at` stands at the places then
+
+module _ (t : Terms) (ch : List ℕ) (n : ℕ) where
+  abbrev pub takeableFrom : List ℕ → ℕ → Bool
+  takeableFrom at j = takeable t (placesOf at) (entries (n - j) (drop (j * 4) ch))
+
+  abbrev pub changeAt : ℕ → Change
+  changeAt j = change (getD ch (j * 4) 0) (spotOf (getD ch (j * 4 + 1) 0) (getD ch (j * 4 + 2) 0) (getD ch (j * 4 + 3) 0))
+
+  pub takeable-start : (at : List ℕ) → takeable t (placesOf at) (entries n ch) ≡ takeableFrom at 0
+  takeable-start at = let e : n - 0 ≡ n = omega arith in rw e
+
+  entries-turn : (j : ℕ) → j < n → entries (n - j) (drop (j * 4) ch) ≡ changeAt j ∷ entries (n - (j + 1)) (drop ((j + 1) * 4) ch)
+  unfolding entries
+  entries-turn j h =
+      let e : n - j ≡ suc (n - (j + 1)) = omega arith in
+      let f : j * 4 + 4 ≡ (j + 1) * 4 = omega arith in
+      let z : j * 4 + 0 ≡ j * 4 = omega arith in
+      rw (e, getD-drop (j * 4) ch 0 0, getD-drop (j * 4) ch 1 0, getD-drop (j * 4) ch 2 0, getD-drop (j * 4) ch 3 0, drop-drop 4 (j * 4) ch, f, z)
+
+  pub takeable-on : (at at′ : List ℕ) (j : ℕ) → j < n → length at ≡ 90
+      → fits t (placesOf at) (changeAt j) ≡ true
+      → at′ ≡ pasted at (changeAt j .place * 3) (getD ch (j * 4 + 1) 0 ∷ getD ch (j * 4 + 2) 0 ∷ getD ch (j * 4 + 3) 0 ∷ [])
+      → takeableFrom at j ≡ takeableFrom at′ (j + 1)
+  unfolding takeable make placesOf
+  takeable-on at at′ j h l e o =
+      rw (
+        entries-turn j h,
+        e,
+        o,
+        spots-set PLACES at (changeAt j .place) (getD ch (j * 4 + 1) 0) (getD ch (j * 4 + 2) 0) (getD ch (j * 4 + 3) 0) l (fit-reaches t (placesOf at) (changeAt j) e),
+      )
+
+  pub takeable-stop : (at : List ℕ) (j : ℕ) → j < n → fits t (placesOf at) (changeAt j) ≡ false → takeableFrom at j ≡ false
+  unfolding takeable
+  takeable-stop at j h e = rw (entries-turn j h, e)
+
+  pub takeable-end : (at : List ℕ) (j : ℕ) → n ≤ j → takeableFrom at j ≡ true
+  unfolding takeable entries
+  takeable-end at j h = let e : n - j ≡ 0 = omega arith in rw e

@@ -1,0 +1,139 @@
+-- Laws of pasting, and of words in a row that was pasted over.
+-- Assumes nothing.
+use mathlib.Core.Path.{_≡_, refl, sym, ap, _∙_, subst}
+use mathlib.Core.List.{List, [], _∷_, _++_, append-assoc, append-nil}
+use Prim.Native.Nat.{ℕ, zero, suc, _+_, _-_, _*_, _^_, _≤_, _<_}
+use native.Mathlib.Numerals.{add-one, unary-clauses}
+use native.Mathlib.Omega.{arith}
+use native.Mathlib.Nat.{add-zero, zero-add, suc-add, add-assoc, mul-suc}
+use lib.ListN.{set, length, take, drop, getD, length-append, length-drop, take-append-drop}
+use lib.Seq.{length-take-le, take-at, drop-at, drop-append-add, drop-drop, take-suc, take-nil, take-take, drop-append-le, take-append-le, sets-eq}
+use Rattle.words.specs.Words.{le, digits, words, bytesOf}
+use Rattle.words.specs.Paste.{pasted}
+use Rattle.words.proofs.Words.{load-turn, le-digits, bytesOf-append, length-bytesOf, length-digits, words-add, length-words}
+
+pub spread : (l : List ℕ) (b : ℕ) (zs : List ℕ) → pasted l b zs ≡ take b l ++ (zs ++ drop (b + length zs) l)
+unfolding pasted
+spread l b zs = refl
+
+pub pasted-nil : (r : List ℕ) (a : ℕ) → pasted r a [] ≡ r
+unfolding pasted
+pasted-nil r a = rw add-zero (take-append-drop a r)
+
+pub length-pasted : (r : List ℕ) (a : ℕ) (xs : List ℕ) → a + length xs ≤ length r → length (pasted r a xs) ≡ length r
+unfolding pasted
+length-pasted r a xs h = rw (length-append, length-append, length-take-le a r (omega arith), length-drop) (omega arith)
+
+pub pasted-then : (r : List ℕ) (a : ℕ) (xs : List ℕ) (p : ℕ) (ys : List ℕ) → p ≡ a + length xs → p + length ys ≤ length r
+    → pasted (pasted r a xs) p ys ≡ pasted r a (xs ++ ys)
+unfolding pasted
+pasted-then r a xs p ys e h =
+    let l : length (take a r ++ xs) ≡ p = rw (length-append, length-take-le a r (omega arith)) (sym e) in
+    let f : take a r ++ (xs ++ drop (a + length xs) r) ≡ take a r ++ xs ++ drop p r = rw (append-assoc, ← e) in
+    let g : drop (p + length ys) (take a r ++ xs ++ drop p r) ≡ drop (p + length ys) r =
+    rw (← l, drop-append-add, drop-drop) in
+    let m : p + length ys ≡ a + length (xs ++ ys) = omega (arith, length-append xs ys) in
+    rw (f, take-at (take a r ++ xs) (drop p r) p l, g, m, append-assoc, append-assoc)
+
+-- ---- words
+
+pub load-at-turn : (bs out₀ : List ℕ) (at i : ℕ) → i < length out₀
+    → set (words i (drop at bs) ++ drop i out₀) i (le (take 8 (drop (at + i * 8) bs))) ≡ words (i + 1) (drop at bs) ++ drop (i + 1) out₀
+load-at-turn bs out₀ at i h = rw (← drop-drop (i * 8) at bs) (load-turn (drop at bs) out₀ i h)
+
+pub one-word : (w : ℕ) → bytesOf (w ∷ []) ≡ digits 8 w
+unfolding bytesOf
+one-word w = append-nil (digits 8 w)
+
+pub store-at-turn : (r ws : List ℕ) (at i : ℕ) → i < length ws → at + 8 * length ws ≤ length r
+    → pasted (pasted r at (bytesOf (take i ws))) (at + i * 8) (digits 8 (getD ws i 0)) ≡ pasted r at (bytesOf (take (i + 1) ws))
+store-at-turn r ws at i h k =
+    let l : length (bytesOf (take i ws)) ≡ 8 * i = rw (length-bytesOf, length-take-le i ws (omega arith)) in
+    pasted-then r at (bytesOf (take i ws)) (at + i * 8) (digits 8 (getD ws i 0)) (omega arith) (rw length-digits (omega arith))
+    ∙ rw (add-one i, take-suc ws i 0, bytesOf-append) (ap (λ (l : List ℕ). pasted r at (bytesOf (take i ws) ++ l)) (sym (one-word (getD ws i 0))))
+
+-- ---- what stands in a row after a paste
+
+pub drop-pasted : (r : List ℕ) (a : ℕ) (xs : List ℕ) → a ≤ length r → drop a (pasted r a xs) ≡ xs ++ drop (a + length xs) r
+unfolding pasted
+drop-pasted r a xs h = drop-at (take a r) (xs ++ drop (a + length xs) r) a (length-take-le a r h)
+
+-- before the paste, and after it, nothing changes
+pub take-pasted : (r : List ℕ) (a : ℕ) (xs : List ℕ) → a ≤ length r → take a (pasted r a xs) ≡ take a r
+unfolding pasted
+take-pasted r a xs h = take-at (take a r) (xs ++ drop (a + length xs) r) a (length-take-le a r h)
+
+pub after-pasted : (r : List ℕ) (a : ℕ) (xs : List ℕ) (q : ℕ) → a ≤ length r → a + length xs ≤ q → drop q (pasted r a xs) ≡ drop q r
+after-pasted r a xs q h k =
+    let e : a + (length xs + (q - (a + length xs))) ≡ q = omega arith in
+    let f : a + length xs + (q - (a + length xs)) ≡ q = omega arith in
+    rw (← e, ← drop-drop, drop-pasted r a xs h, drop-append-add, drop-drop)
+    (ap (λ (n : ℕ). drop n r) (f ∙ sym e))
+
+pub next-drop : (r x z : List ℕ) (p n q : ℕ) → drop p r ≡ x ++ z → length x ≡ n → q ≡ p + n → drop q r ≡ z
+next-drop r x z p n q e l h = rw (h, ← drop-drop, e) (drop-at x z n l)
+
+pub words-front : (ws z : List ℕ) → ((i : ℕ) → getD ws i 0 < 2 ^ 64) → words (length ws) (bytesOf ws ++ z) ≡ ws
+unfolding words bytesOf
+words-front [] z h = refl
+words-front (w ∷ ws) z h =
+    rw (
+      append-assoc (digits 8 w) (bytesOf ws) z,
+      take-at (digits 8 w) (bytesOf ws ++ z) 8 (length-digits 8 w),
+      drop-at (digits 8 w) (bytesOf ws ++ z) 8 (length-digits 8 w),
+      le-digits 8 w (h 0),
+      words-front ws z (λ i. h (suc i)),
+    )
+
+pub le-front : (w : ℕ) (z : List ℕ) → w < 2 ^ 64 → le (take 8 (digits 8 w ++ z)) ≡ w
+le-front w z h = rw (take-at (digits 8 w) z 8 (length-digits 8 w)) (le-digits 8 w h)
+
+pub drop-take : (m k : ℕ) (l : List ℕ) → drop m (take (m + k) l) ≡ take k (drop m l)
+drop-take zero k l = rw zero-add
+drop-take (suc m) k [] = rw (suc-add, take-nil)
+drop-take (suc m) k (x ∷ l) = rw suc-add (drop-take m k l)
+
+pub words-take : (n : ℕ) (l : List ℕ) → words n (take (8 * n) l) ≡ words n l
+unfolding words
+words-take zero l = refl
+words-take (suc n) l =
+    let e : 8 * suc n ≡ 8 + 8 * n = omega (arith, mul-suc 8 n) in
+    rw (e, take-take 8 (8 + 8 * n) l (omega arith), drop-take 8 (8 * n) l, words-take n (drop 8 l))
+
+pub part-front : (x y : List ℕ) (p n : ℕ) → p + n ≤ length x → take n (drop p (x ++ y)) ≡ take n (drop p x)
+part-front x y p n h =
+    rw (drop-append-le p x y (omega arith)) (take-append-le n (drop p x) y (rw length-drop (omega arith)))
+
+pub before-pasted : (r : List ℕ) (a : ℕ) (xs : List ℕ) (p n : ℕ) → a ≤ length r → p + n ≤ a
+    → take n (drop p (pasted r a xs)) ≡ take n (drop p r)
+unfolding pasted
+before-pasted r a xs p n h k =
+    let l : p + n ≤ length (take a r) = rw (length-take-le a r h) k in
+    part-front (take a r) (xs ++ drop (a + length xs) r) p n l
+    ∙ sym (part-front (take a r) (drop a r) p n l)
+    ∙ ap (λ (m : List ℕ). take n (drop p m)) (take-append-drop a r)
+
+pub words-before : (r : List ℕ) (a : ℕ) (xs : List ℕ) (p n : ℕ) → a ≤ length r → p + 8 * n ≤ a
+    → words n (drop p (pasted r a xs)) ≡ words n (drop p r)
+words-before r a xs p n h k =
+    sym (words-take n (drop p (pasted r a xs))) ∙ rw (before-pasted r a xs p (8 * n) h k) (words-take n (drop p r))
+
+-- a paste over a paste, and a paste of what stands there
+pub pasted-over : (r : List ℕ) (a : ℕ) (xs ys : List ℕ) → a + length xs ≤ length r → length xs ≡ length ys → pasted (pasted r a xs) a ys ≡ pasted r a ys
+pasted-over r a xs ys h e =
+    let d = after-pasted r a xs (a + length ys) (omega arith) (omega arith) in
+    let t = take-pasted r a xs (omega arith) in
+    spread (pasted r a xs) a ys ∙ rw (t, d) (sym (spread r a ys))
+
+pub pasted-same : (r : List ℕ) (a n : ℕ) → a + n ≤ length r → pasted r a (take n (drop a r)) ≡ r
+unfolding pasted
+pasted-same r a n h =
+    let l : length (take n (drop a r)) ≡ n = length-take-le n (drop a r) (rw length-drop (omega arith)) in
+    rw (l, ← drop-drop n a r, take-append-drop n (drop a r)) (take-append-drop a r)
+
+-- three stores, one after the other
+pub three-pasted : (l : List ℕ) (p x y h : ℕ) → p * 3 + 3 ≤ length l → set (set (set l (p * 3) x) (p * 3 + 1) y) (p * 3 + 2) h ≡ pasted l (p * 3) (x ∷ y ∷ h ∷ [])
+unfolding pasted
+three-pasted l p x y h k =
+    let e = sets-eq (x ∷ y ∷ h ∷ []) l (p * 3) k ∙ append-assoc (take (p * 3) l) (x ∷ y ∷ h ∷ []) (drop (p * 3 + 3) l) in
+    simp unary-clauses (simp unary-clauses at e)

@@ -1,0 +1,123 @@
+-- Laws of words in a row of bytes.
+-- Assumes nothing.
+use mathlib.Core.Path.{_≡_, refl, sym, ap, _∙_, subst}
+use mathlib.Core.List.{List, [], _∷_, _++_, append-assoc, append-nil}
+use Prim.Native.Nat.{ℕ, zero, suc, _+_, _*_, _/_, _%_, _^_, _≤_, _<_, zero-le, suc-le-suc}
+use native.Mathlib.Numerals.{add-one, unary-clauses}
+use native.Mathlib.Omega.{arith}
+use native.Mathlib.Nat.{mul-suc, mul-zero, add-zero, mul-comm, suc-add, zero-add, pow-succ'}
+use lib.ListN.{set, length, take, drop, getD, take-append-drop, length-append, length-take, length-drop}
+use lib.Seq.{set-at, append-snoc, drop-append-add, take-suc, take-length, sets-eq, drop-cons, take-at, drop-at, take-add, drop-drop, drop-nil, length-take-le, take-all, getD-drop, getD-take}
+use Rattle.words.specs.Words.{le, sumAt, digits, words, bytesOf}
+
+-- ---- digits
+
+pub length-digits : (n w : ℕ) → length (digits n w) ≡ n
+unfolding digits
+length-digits zero w = refl
+length-digits (suc n) w = ap suc (length-digits n (w / 256))
+
+pub le-digits : (n w : ℕ) → w < 256 ^ n → le (digits n w) ≡ w
+unfolding digits le
+le-digits zero w h = let e : 256 ^ 0 ≡ 1 = refl in omega arith
+le-digits (suc n) w h =
+    let e : 256 ^ suc n ≡ 256 * 256 ^ n = pow-succ' 256 n in
+    rw (le-digits n (w / 256) (omega arith)) (omega arith)
+
+pub digits-le : (bs : List ℕ) → ((i : ℕ) → getD bs i 0 < 256) → digits (length bs) (le bs) ≡ bs
+unfolding digits le
+digits-le [] h = refl
+digits-le (b ∷ bs) h =
+    let hb : b < 256 = h 0 in
+    let em : (b + 256 * le bs) % 256 ≡ b = omega arith in
+    let ed : (b + 256 * le bs) / 256 ≡ le bs = omega arith in
+    rw (em, ed) (ap (λ (l : List ℕ). b ∷ l) (digits-le bs (λ i. h (suc i))))
+
+-- ---- words
+
+nil-of : (bs : List ℕ) → length bs ≡ 0 → bs ≡ []
+nil-of [] e = refl
+nil-of (b ∷ bs) e = let z : ⊥ = omega arith in absurd z
+
+sucs : (bs : List ℕ) (at : ℕ)
+    → le
+    (getD bs at 0
+    ∷ getD bs (suc at) 0
+    ∷ getD bs (suc (suc at)) 0
+    ∷ getD bs (suc (suc (suc at))) 0
+    ∷ getD bs (suc (suc (suc (suc at)))) 0
+    ∷ getD bs (suc (suc (suc (suc (suc at))))) 0
+    ∷ getD bs (suc (suc (suc (suc (suc (suc at)))))) 0
+    ∷ getD bs (suc (suc (suc (suc (suc (suc (suc at))))))) 0
+    ∷ [])
+    ≡ sumAt bs at
+unfolding le
+sucs bs at = simp (unary-clauses, mul-zero, add-zero)
+
+below-take : (n : ℕ) (bs : List ℕ) → ((i : ℕ) → getD bs i 0 < 256) → (i : ℕ) → getD (take n bs) i 0 < 256
+below-take zero bs h i = omega arith
+below-take (suc n) [] h i = omega arith
+below-take (suc n) (b ∷ bs) h zero = h 0
+below-take (suc n) (b ∷ bs) h (suc i) = below-take n bs (λ j. h (suc j)) i
+
+-- the first eight bytes from at are those that the sum names
+pub le-sumAt : (bs : List ℕ) (at : ℕ) → at + 8 ≤ length bs → le (take 8 (drop at bs)) ≡ sumAt bs at
+unfolding le
+le-sumAt bs at h =
+    rw (
+      drop-cons bs at 0 (omega arith),
+      drop-cons bs (suc at) 0 (omega arith),
+      drop-cons bs (suc (suc at)) 0 (omega arith),
+      drop-cons bs (suc (suc (suc at))) 0 (omega arith),
+      drop-cons bs (suc (suc (suc (suc at)))) 0 (omega arith),
+      drop-cons bs (suc (suc (suc (suc (suc at))))) 0 (omega arith),
+      drop-cons bs (suc (suc (suc (suc (suc (suc at)))))) 0 (omega arith),
+      drop-cons bs (suc (suc (suc (suc (suc (suc (suc at))))))) 0 (omega arith),
+    )
+    (sucs bs at)
+
+pub length-words : (n : ℕ) (bs : List ℕ) → length (words n bs) ≡ n
+unfolding words
+length-words zero bs = refl
+length-words (suc n) bs = ap suc (length-words n (drop 8 bs))
+
+pub words-add : (n m : ℕ) (bs : List ℕ) → words (n + m) bs ≡ words n bs ++ words m (drop (8 * n) bs)
+unfolding words
+words-add zero m bs = rw zero-add
+words-add (suc n) m bs =
+    let e : 8 + 8 * n ≡ 8 * suc n = omega (arith, mul-suc 8 n) in
+    rw (suc-add, words-add n m (drop 8 bs), drop-drop, e)
+
+pub length-bytesOf : (ws : List ℕ) → length (bytesOf ws) ≡ 8 * length ws
+unfolding bytesOf
+length-bytesOf [] = refl
+length-bytesOf (w ∷ ws) = simp (length-append, length-digits, length-bytesOf ws) (omega (arith, mul-suc 8 (length ws)))
+
+pub bytesOf-append : (xs ys : List ℕ) → bytesOf (xs ++ ys) ≡ bytesOf xs ++ bytesOf ys
+unfolding bytesOf
+bytesOf-append [] ys = refl
+bytesOf-append (x ∷ xs) ys = rw (bytesOf-append xs ys, append-assoc)
+
+pub bytesOf-words : (n : ℕ) (bs : List ℕ) → length bs ≡ 8 * n → ((i : ℕ) → getD bs i 0 < 256) → bytesOf (words n bs) ≡ bs
+unfolding words bytesOf
+bytesOf-words zero bs e h = sym (nil-of bs e)
+bytesOf-words (suc n) bs e h =
+    let l8 : length (take 8 bs) ≡ 8 = length-take-le 8 bs (omega (arith, mul-suc 8 n)) in
+    let d : digits 8 (le (take 8 bs)) ≡ take 8 bs =
+    subst (λ (k : ℕ). digits k (le (take 8 bs)) ≡ take 8 bs) l8 (digits-le (take 8 bs) (below-take 8 bs h)) in
+    rw (d, bytesOf-words n (drop 8 bs) (simp length-drop (omega (arith, mul-suc 8 n))) (λ i. rw getD-drop (h (8 + i)))) (take-append-drop 8 bs)
+
+-- ---- a turn of each loop
+
+pub load-turn : (bs out₀ : List ℕ) (i : ℕ) → i < length out₀
+    → set (words i bs ++ drop i out₀) i (le (take 8 (drop (i * 8) bs))) ≡ words (i + 1) bs ++ drop (i + 1) out₀
+unfolding words
+load-turn bs out₀ i h =
+    rw (drop-cons out₀ i 0, set-at (words i bs) _ _ _ i (length-words i bs), words-add i 1 bs, append-snoc, add-one i, mul-comm i 8)
+
+-- eight stores, one after the other
+pub stored : (l : List ℕ) (at w : ℕ) → at + 8 ≤ length l
+    → set (set (set (set (set (set (set (set l at (w % 256)) (at + 1) (w / 256 % 256)) (at + 2) (w / 256 / 256 % 256)) (at + 3) (w / 256 / 256 / 256 % 256)) (at + 4) (w / 256 / 256 / 256 / 256 % 256)) (at + 5) (w / 256 / 256 / 256 / 256 / 256 % 256)) (at + 6) (w / 256 / 256 / 256 / 256 / 256 / 256 % 256)) (at + 7) (w / 256 / 256 / 256 / 256 / 256 / 256 / 256 % 256)
+    ≡ take at l ++ digits 8 w ++ drop (at + 8) l
+unfolding digits
+stored l at w h = simp unary-clauses (simp unary-clauses at (sets-eq (digits 8 w) l at h))
