@@ -16,7 +16,7 @@ use Rattle.paper.specs.Units.{Triple, Terms, from1To, upTo, onEarth, within, in
 use Rattle.paper.specs.Books.{Change, make}
 use Rattle.paper.proofs.Tests.{and-left, and-right}
 use Rattle.paper.proofs.Form.{Fits, AllFit}
-use Rattle.image.specs.Lengths.{len, word, wordOr, triple, tripleWords, termsOf, termWords, tripleAt}
+use Rattle.image.specs.Lengths.{len, word, wordOr, triple, tripleWords, termsOf, termWords, termWordsOr, tripleAt}
 use Rattle.image.specs.Places.{allZero, spotOf, spotWords, cellsOf}
 use Rattle.image.specs.Changes.{changeWords, changesOf}
 use Rattle.image.proofs.Lengths.{len-word, word-small, len-bound, of-word, wordOr-word}
@@ -27,6 +27,10 @@ use Rattle.image.proofs.Changes.{KeptShort}
 
 pub split3 : (a b c : Bool) → a && b && c ≡ true → (a ≡ true) × (b ≡ true) × (c ≡ true)
 split3 a b c e = let f = and-left (a && b) c e in (and-left a b f, and-right a b f, and-right (a && b) c e)
+
+and-no : (a b : Bool) → b ≡ false → a && b ≡ false
+and-no true b e = e
+and-no false b e = refl
 
 -- the rows of the table of ranges
 pub record Ranged (t : Terms) : Type 0 where
@@ -168,6 +172,71 @@ near-words t k x y h r =
 pub words-of : (x y h : ℤ) → Short (some (record { x = x; y = y; h = h })) → wordOr x ∷ wordOr y ∷ wordOr h ∷ [] ≡ spotWords (some (record { x = x; y = y; h = h }))
 unfolding Short spotWords tripleWords
 words-of x y h f = rw (wordOr-word x (f .0), wordOr-word y (f .1), wordOr-word h (f .2))
+
+-- ---- terms of any size are in range exactly where their words are, and then the words mean them
+
+one-far : (n : ℕ) (z : ℤ) → n < 1000000000000 → 1000000000000 ≤ natAbs z → from1To n z ≡ false
+one-far n (pos k) h g = and-no (leb 1 k) (leb k n) (lt-leb k n (omega arith))
+one-far n (negsuc k) h g = refl
+
+up-far : (n : ℕ) (z : ℤ) → n < 1000000000000 → 1000000000000 ≤ natAbs z → upTo n z ≡ false
+up-far n z h g = lt-leb (natAbs z) n (omega arith)
+
+one-given : (n : ℕ) → n < 1000000000000 → (z : ℤ) → from1To n (len (wordOr z)) ≡ from1To n z
+one-given n h z = of-word (from1To n) false (λ y. one-far n y h) z
+
+up-given : (n : ℕ) → n < 1000000000000 → (z : ℤ) → upTo n (len (wordOr z)) ≡ upTo n z
+up-given n h z = of-word (upTo n) false (λ y. up-far n y h) z
+
+earth-given : (p : Triple) → onEarth (triple (wordOr (p .x)) (wordOr (p .y)) (wordOr (p .h))) ≡ onEarth p
+unfolding onEarth
+earth-given p = let h : 100000000000 < 1000000000000 = omega arith in rw (up-given 100000000000 h (p .x), up-given 100000000000 h (p .y), up-given 100000000000 h (p .h))
+
+len-given : (z : ℤ) → natAbs z ≤ 100000000000 → len (wordOr z) ≡ z
+len-given z h = rw (wordOr-word z (omega arith)) (len-word z (omega arith))
+
+point-given : (p : Triple) → OnEarth p → triple (wordOr (p .x)) (wordOr (p .y)) (wordOr (p .h)) ≡ p
+point-given p o = rw (len-given (p .x) (o .x), len-given (p .y) (o .y), len-given (p .h) (o .h))
+
+pub range-given : (t : Terms) → inRange (termsOf (termWordsOr t)) ≡ inRange t
+unfolding inRange termsOf termWordsOr tripleAt
+range-given t =
+    rw (
+      one-given 500000 (omega arith) (t .distance),
+      up-given 500000 (omega arith) (t .height),
+      one-given 10000 (omega arith) (t .screenXY),
+      one-given 10000 (omega arith) (t .screenH),
+      one-given 10000 (omega arith) (t .sigmaXY),
+      one-given 10000 (omega arith) (t .sigmaH),
+      earth-given (t .point1),
+      earth-given (t .point2),
+    )
+    (and-then six (onEarth (t .point1)) (onEarth (t .point2)) _ _
+    (λ e f. rw (point-given (t .point1) (on-earth (t .point1) e), point-given (t .point2) (on-earth (t .point2) f))))
+  where
+    six : Bool
+    six = from1To 500000 (t .distance) && upTo 500000 (t .height) && from1To 10000 (t .screenXY) && from1To 10000 (t .screenH) && from1To 10000 (t .sigmaXY) && from1To 10000 (t .sigmaH)
+
+    and-then : (a b c w w′ : Bool) → (b ≡ true → c ≡ true → w ≡ w′) → a && b && c && w ≡ a && b && c && w′
+    and-then true true true w w′ f = f refl refl
+    and-then true true false w w′ f = refl
+    and-then true false c w w′ f = refl
+    and-then false b c w w′ f = refl
+
+pub terms-given : (t : Terms) → inRange t ≡ true → termsOf (termWordsOr t) ≡ t
+unfolding termsOf termWordsOr tripleAt
+terms-given t e =
+    let r = ranged t e in
+    rw (
+      len-given (t .distance) (omega (arith, one-le 500000 (t .distance) (r .distance))),
+      len-given (t .height) (omega (arith, up-le 500000 (t .height) (r .height))),
+      len-given (t .screenXY) (omega (arith, one-le 10000 (t .screenXY) (r .screenXY))),
+      len-given (t .screenH) (omega (arith, one-le 10000 (t .screenH) (r .screenH))),
+      len-given (t .sigmaXY) (omega (arith, one-le 10000 (t .sigmaXY) (r .sigmaXY))),
+      len-given (t .sigmaH) (omega (arith, one-le 10000 (t .sigmaH) (r .sigmaH))),
+      point-given (t .point1) (on-earth (t .point1) (r .point1)),
+      point-given (t .point2) (on-earth (t .point2) (r .point2)),
+    )
 
 -- ---- every word of a book in form is below 2^64
 

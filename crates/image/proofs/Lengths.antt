@@ -8,12 +8,15 @@ use mathlib.Core.List.{List, [], _∷_, _++_}
 use lib.ListN.{length, getD}
 use lib.Dec.{leb}
 use lib.IntN.{ℤ, pos, negsuc, natAbs, _-ℤ_, subℕ}
+use mir.Syntax.{w64}
+use mir.Val.{toZ, ofZ, SFits}
+use mir.ValLaws.{toZ-ofZ}
 use borrow.Author.Tests.{lt-ltb, le-ltb, lt-leb}
 use Rattle.integers.specs.Ring.{minus-minus}
 use Rattle.integers.specs.Diff.{bias, bias-back, bias-le, minus-sub, sub-ge, sub-lt, sub-eq, abs-minus, ≤-or-<}
 use Rattle.paper.specs.Units.{Triple, Terms, approximate, upTo}
 use Rattle.paper.specs.Figures.{along}
-use Rattle.image.specs.Lengths.{len, word, wordOr, triple, tripleAt, tripleWords, termsOf, termWords}
+use Rattle.image.specs.Lengths.{len, word, wordOr, triple, tripleAt, tripleWords, termsOf, termWords, termWordsOr}
 use Rattle.image.specs.Places.{axisOf}
 
 -- ---- both ways
@@ -132,3 +135,25 @@ twelve (a ∷ b ∷ c ∷ d ∷ e ∷ f ∷ g ∷ h ∷ i ∷ j ∷ k ∷ []) n 
 pub words-terms : (t : List ℕ) → length t ≡ 12 → termWords (termsOf t) ≡ t
 unfolding termWords termsOf tripleWords tripleAt
 words-terms t n = simp word-len (twelve t n)
+
+-- twelve words of twelve numbers
+pub twelve-words : (t : Terms) (a b c d e f g h i j k l : ℕ)
+    → a ≡ wordOr (t .distance)
+    → b ≡ wordOr (t .height)
+    → c ≡ wordOr (t .screenXY)
+    → d ≡ wordOr (t .screenH)
+    → e ≡ wordOr (t .sigmaXY)
+    → f ≡ wordOr (t .sigmaH)
+    → g ≡ wordOr (t .point1 .x)
+    → h ≡ wordOr (t .point1 .y)
+    → i ≡ wordOr (t .point1 .h)
+    → j ≡ wordOr (t .point2 .x)
+    → k ≡ wordOr (t .point2 .y)
+    → l ≡ wordOr (t .point2 .h)
+    → a ∷ b ∷ c ∷ d ∷ e ∷ f ∷ g ∷ h ∷ i ∷ j ∷ k ∷ l ∷ [] ≡ termWordsOr t
+unfolding termWordsOr
+twelve-words t a b c d e f g h i j k l ea eb ec ed ee ef eg eh ei ej ek el = rw (ea, eb, ec, ed, ee, ef, eg, eh, ei, ej, ek, el)
+
+-- a signed argument comes back from a call as it went
+pub repaired : {w : ℕ} (x : ℤ) → SFits w64 x → w ≡ wordOr (toZ w64 (ofZ w64 x)) → w ≡ wordOr x
+repaired x f e = e ∙ ap wordOr (toZ-ofZ w64 x f)

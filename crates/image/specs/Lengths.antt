@@ -55,3 +55,34 @@ termWords t =
     ∷ word (t .sigmaXY)
     ∷ word (t .sigmaH)
     ∷ (tripleWords (t .point1) ++ tripleWords (t .point2))
+
+-- the same of numbers of any size
+unfoldable pub termWordsOr : Terms → List ℕ
+termWordsOr t =
+    wordOr (t .distance)
+    ∷ wordOr (t .height)
+    ∷ wordOr (t .screenXY)
+    ∷ wordOr (t .screenH)
+    ∷ wordOr (t .sigmaXY)
+    ∷ wordOr (t .sigmaH)
+    ∷ wordOr (t .point1 .x)
+    ∷ wordOr (t .point1 .y)
+    ∷ wordOr (t .point1 .h)
+    ∷ wordOr (t .point2 .x)
+    ∷ wordOr (t .point2 .y)
+    ∷ wordOr (t .point2 .h)
+    ∷ []
+
+-- twelve numbers in the order of the TERMS line
+abbrev pub termsGiven : ℤ → ℤ → ℤ → ℤ → ℤ → ℤ → ℤ → ℤ → ℤ → ℤ → ℤ → ℤ → Terms
+termsGiven d h sxy sh gxy gh x1 y1 h1 x2 y2 h2 =
+    record {
+      distance = d;
+      height = h;
+      screenXY = sxy;
+      screenH = sh;
+      sigmaXY = gxy;
+      sigmaH = gh;
+      point1 = record { x = x1; y = y1; h = h1 };
+      point2 = record { x = x2; y = y2; h = h2 };
+    }

@@ -1,7 +1,7 @@
 // Numbers of any size to what the words of a book hold, and back.
 ghost use mathlib.Core.Path.{_≡_};
 ghost use Prim.Native.Nat.{_<_};
-ghost use Rattle.image.specs.Lengths.{len, wordOr};
+ghost use Rattle.image.specs.Lengths.{len, wordOr, termWordsOr, termsGiven};
 ghost use Rattle.image.specs.Places.{placeOf};
 use paper::Procedure;
 
@@ -16,6 +16,39 @@ pub fn word_of(x: i64) -> u64
         return 0;
     }
     (x + 1000000000000) as u64
+}
+
+// The words of twelve terms.
+pub fn terms_of(
+    distance: i64,
+    height: i64,
+    sxy: i64,
+    sh: i64,
+    gxy: i64,
+    gh: i64,
+    x1: i64,
+    y1: i64,
+    h1: i64,
+    x2: i64,
+    y2: i64,
+    h2: i64,
+) -> [u64; 12]
+    ensures { λ r. ⌜ r ≡ termWordsOr (termsGiven distance height sxy sh gxy gh x1 y1 h1 x2 y2 h2) ⌝ }
+{
+    [
+        word_of(distance),
+        word_of(height),
+        word_of(sxy),
+        word_of(sh),
+        word_of(gxy),
+        word_of(gh),
+        word_of(x1),
+        word_of(y1),
+        word_of(h1),
+        word_of(x2),
+        word_of(y2),
+        word_of(h2),
+    ]
 }
 
 // The length of a word.

@@ -1,0 +1,99 @@
+-- The ways out of a question of a book.
+-- Assumes nothing.
+use Prim.Native.Nat.{ℕ, suc, _+_, _*_, _<_}
+use native.Mathlib.Omega.{arith}
+use native.Mathlib.Nat.{zero-add}
+use mathlib.Core.Path.{_≡_, refl, sym, ap, _∙_, subst}
+use mathlib.Core.Bool.{Bool, true, false, cond, not, _&&_, _||_}
+use mathlib.Core.Option.{Option, none, some, Option·map}
+use mathlib.Core.List.{List, [], _∷_}
+use lib.ListN.{length, getD}
+use lib.Dec.{eqb}
+use lib.IntN.{ℤ}
+use borrow.Author.Tests.{eqb-true, eqb-false}
+use Rattle.paper.specs.Procedure.{PLACES}
+use Rattle.paper.specs.Units.{Triple, zeros, Place, inSheet, number, nearAt, isEmpty, standing, Spot}
+use Rattle.paper.specs.Books as paper
+use Rattle.paper.specs.Calls.{Question, read, changes, ask}
+use Rattle.paper.specs.TurnedAway.{Rule, lowest, questioned, empty}
+use Rattle.paper.specs.Answers.{Value, lengths, given, beside, suspectIn, says}
+use Rattle.paper.specs.Alone.{askedAlone}
+use Rattle.paper.proofs.Form.{parts}
+use Rattle.paper.proofs.History.{near-at}
+use Rattle.image.specs.Lengths.{len, triple, termsOf}
+use Rattle.image.specs.Places.{allZero, spotOf, spotAt, placesOf}
+use Rattle.image.proofs.Places.{place-at, empty-spot}
+use Rattle.image.proofs.Bounds.{spot-short, full-bound}
+use Rattle.book.specs.declared.Book.{Book}
+use Rattle.book.specs.declared.Lengths.{Lengths}
+use Rattle.book.specs.declared.Count.{Count}
+use Rattle.book.specs.Meaning.{openOf, meant, bookForm, seen}
+use Rattle.book.specs.Steps.{aim, aimOf, lengthsBy, lengthsOf, countOf}
+use Rattle.book.proofs.Meaning.{Sized, Sound, form-sound, meant-closed, meant-open, seen-in, seen-out}
+use Rattle.book.proofs.Steps.{sightO, On, placed, place-small, spot-there, empty-is, ranged, kept-count}
+
+-- ---- lengths
+
+-- a question of a place that answers in lengths: REGISTER, PLACE, CLOSED
+pub asked-refused : (b : Book) (p : Place) (q : ℕ → Question) (rest : List Rule) (n : ℕ) → questioned (q 1) (λ k. sightO b) ≡ placed b p rest → beside (q 1) ≡ lengths zeros
+    → n ≡ aimOf b p .refusal → (n ≡ 0 → ⊥) → lengthsBy n zeros ≡ lengthsOf (askedAlone q (seen b))
+unfolding aimOf lengthsOf askedAlone says lowest
+asked-refused b p q rest n r z e f = go (bookForm b) (inSheet p) (eqb (b .opened) 0) refl refl refl e
+  where
+    go : (i j k : Bool) → bookForm b ≡ i → inSheet p ≡ j → eqb (b .opened) 0 ≡ k
+        → n ≡ cond i (cond j (cond k (aim 5 0) (aim 0 (number p))) (aim 2 0)) (aim 1 0) .refusal
+        → lengthsBy n zeros ≡ lengthsOf (askedAlone q (seen b))
+    go false j k u v w e = rw (e, seen-out b u, z)
+    go true false k u v w e = rw (e, seen-in b u, r, v, z)
+    go true true true u v w e = rw (e, seen-in b u, r, v, meant-closed b (eqb-true (b .opened) 0 w), z)
+    go true true false u v w e = absurd (f e)
+
+module _ (b : Book) (s : Sized b) (p : Place) (q : ℕ) (o : On b p q) where
+  abbrev x : ℕ
+  x = getD (b .cells) (q * 3) 0
+
+  abbrev y : ℕ
+  y = getD (b .cells) (q * 3 + 1) 0
+
+  abbrev h : ℕ
+  h = getD (b .cells) (q * 3 + 2) 0
+
+  pub read-empty : isEmpty (spotAt (b .cells) (q * 3)) ≡ true → lengthsBy 7 zeros ≡ lengthsOf (askedAlone (λ k. read k p) (seen b))
+  unfolding lengthsOf askedAlone says lowest questioned beside
+  read-empty e = rw (seen-in b (o .form), o .in-sheet, empty-is b s p q o, e, meant-open b (o .opened))
+
+  full : isEmpty (spotAt (b .cells) (q * 3)) ≡ false → allZero x y h ≡ false
+  full e = sym (empty-spot x y h) ∙ e
+
+  pub read-full : isEmpty (spotAt (b .cells) (q * 3)) ≡ false → lengthsBy 0 (triple x y h) ≡ lengthsOf (askedAlone (λ k. read k p) (seen b))
+  unfolding lengthsOf askedAlone says lowest questioned given empty paper.sight spotOf
+  read-full e = rw (seen-in b (o .form), o .in-sheet, meant-open b (o .opened), spot-there b s p q o, full e)
+
+  pub read-bound : isEmpty (spotAt (b .cells) (q * 3)) ≡ false → (x < 2000000000000) × (y < 2000000000000) × (h < 2000000000000)
+  unfolding openOf
+  read-bound e =
+      let g = form-sound b (o .form) (o .opened) in
+      let n : nearAt (termsOf (b .terms)) q (getD (placesOf (b .cells)) q none) ≡ true = rw zero-add at (near-at (termsOf (b .terms)) 0 (placesOf (b .cells)) q (parts (openOf b) (g .formed) .close)) in
+      let m : nearAt (termsOf (b .terms)) q (spotAt (b .cells) (q * 3)) ≡ true = subst (λ (v : Spot). nearAt (termsOf (b .terms)) q v ≡ true) (place-at (b .cells) q (place-small b s p q o)) n in
+      full-bound x y h (full e) (spot-short (termsOf (b .terms)) q (spotAt (b .cells) (q * 3)) (ranged b s g) m)
+
+pub lengths-same : (x y h x′ y′ h′ : ℤ) → x ≡ x′ → y ≡ y′ → h ≡ h′ → _≡_ {A = Lengths} (record { refusal = 0; x = x; y = y; h = h }) (lengthsBy 0 (record { x = x′; y = y′; h = h′ }))
+lengths-same x y h x′ y′ h′ e f g = rw (e, f, g)
+
+-- ---- the count
+
+abbrev pub counted : ℕ → ℕ → Count
+counted n m = record { refusal = n; count = m }
+
+module _ (b : Book) where
+  pub count-unformed : bookForm b ≡ false → counted 1 0 ≡ countOf (askedAlone changes (seen b))
+  unfolding countOf askedAlone beside
+  count-unformed e = rw (seen-out b e)
+
+  pub count-closed : bookForm b ≡ true → b .opened ≡ 0 → counted 5 0 ≡ countOf (askedAlone changes (seen b))
+  unfolding countOf askedAlone says lowest questioned beside
+  count-closed e z = rw (seen-in b e, meant-closed b z)
+
+  pub count-open : Sized b → bookForm b ≡ true → (b .opened ≡ 0 → ⊥) → counted 0 (b .kept) ≡ countOf (askedAlone changes (seen b))
+  unfolding countOf askedAlone says lowest questioned given paper.sight
+  count-open s e f = rw (seen-in b e, meant-open b f, kept-count b s (form-sound b e f))

@@ -1,0 +1,56 @@
+use mathlib.Core.Path.{_≡_, _∙_}
+use lib.ListN.{length}
+use Rattle.image.specs.Lengths.{termsOf}
+use Rattle.form.proofs.Laws.{known}
+use Rattle.book.proofs.Meaning.{Sized}
+use Rattle.book.proofs.Steps.{step-unformed, begin-open, begin-range, begun-with, blank-words}
+use borrow.Author.Needs.{needs}
+use Rattle.book.proofs.Book.begin_words.Statement.{statement}
+use Rattle.book.proofs.Book.begin_words.Tie as tie
+use Rattle.book.proofs.Book.begin_words.Reads as reads
+use Rattle.book.proofs.Book.begin_words.Lts as lts
+use Rattle.book.proofs.begun.Reads as begun-reads
+use Rattle.book.proofs.in_form.Reads as in-form-reads
+use Rattle.form.proofs.in_range.Reads as in-range-reads
+
+sized : (s : tie.Start) → Sized (s .args .self)
+sized s = record { terms-12 = search needs; cells-90 = search needs; changes-128 = search needs }
+
+in-form-requires : tie.Need-in-form-requires
+in-form-requires c κs = search needs
+
+returns : tie.Need-returns
+returns c =
+    begin-open _ (sized (c .before .before .before .before)) (known (c .before .before .before .in-form .ensures) (c .before .before .if1 .taken)) _ (c .if2 .taken)
+
+in-range-requires : tie.Need-in-range-requires
+in-range-requires c κs = search needs
+
+begun-requires : tie.Need-begun-requires
+begun-requires c κs = search needs
+
+returns-2 : tie.Need-returns-2
+returns-2 c =
+    let s = c .before .before .before .before .before .before .before .before in
+    let l : length (s .args .t2) ≡ 12 = search needs in
+    begun-with (s .args .self) (sized s) (known (c .before .before .before .before .before .before .before .in-form .ensures) (c .before .before .before .before .before .before .if1 .taken)) (termsOf (s .args .t2)) (c .begun .result) (c .before .before .before .before .if2 .left) (known (c .before .before .in-range .ensures) (c .before .if3 .taken)) (c .begun .ensures ∙ blank-words (s .args .t2) l)
+
+returns-3 : tie.Need-returns-3
+returns-3 c =
+    begin-range _ (sized (c .before .before .before .before .before .before .before)) (known (c .before .before .before .before .before .before .in-form .ensures) (c .before .before .before .before .before .if1 .taken)) _ (c .before .before .before .if2 .left) (known (c .before .in-range .ensures) (c .if3 .left))
+
+returns-4 : tie.Need-returns-4
+returns-4 c =
+    step-unformed _ _ (known (c .before .in-form .ensures) (c .if1 .left))
+
+pub begin-words-spec : {M : Type 1} → statement M
+begin-words-spec =
+    tie.close
+    (tie.spec
+    in-form-requires
+    returns
+    in-range-requires
+    begun-requires
+    returns-2
+    returns-3
+    returns-4)

@@ -1,0 +1,30 @@
+use Rattle.form.proofs.Laws.{known}
+use Rattle.book.proofs.Meaning.{Sized}
+use Rattle.book.proofs.Asks.{count-unformed, count-closed, count-open}
+use borrow.Author.Needs.{needs}
+use Rattle.book.proofs.Book.count.Statement.{statement}
+use Rattle.book.proofs.Book.count.Tie as tie
+use Rattle.book.proofs.Book.count.Reads as reads
+use Rattle.book.proofs.Book.count.Lts as lts
+use Rattle.book.proofs.in_form.Reads as in-form-reads
+
+sized : (s : tie.Start) → Sized (s .args .self)
+sized s = record { terms-12 = search needs; cells-90 = search needs; changes-128 = search needs }
+
+in-form-requires : tie.Need-in-form-requires
+in-form-requires c κs = search needs
+
+returns : tie.Need-returns
+returns c =
+    count-closed _ (known (c .before .before .before .in-form .ensures) (c .before .before .if1 .taken)) (c .if2 .taken)
+
+returns-2 : tie.Need-returns-2
+returns-2 c =
+    count-open _ (sized (c .before .before .before .before)) (known (c .before .before .before .in-form .ensures) (c .before .before .if1 .taken)) (c .if2 .left)
+
+returns-3 : tie.Need-returns-3
+returns-3 c =
+    count-unformed _ (known (c .before .in-form .ensures) (c .if1 .left))
+
+pub count-spec : {M : Type 1} → statement M
+count-spec = tie.close (tie.spec in-form-requires returns returns-2 returns-3)

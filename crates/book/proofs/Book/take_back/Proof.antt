@@ -1,0 +1,47 @@
+use native.Mathlib.Omega.{arith}
+use mathlib.Core.Path.{_≡_, ap, _∙_}
+use Prim.Native.Nat.{_<_}
+use Rattle.form.proofs.Laws.{known}
+use Rattle.book.specs.declared.Book.{Book}
+use Rattle.book.specs.Steps.{step}
+use Rattle.book.proofs.Meaning.{Sized}
+use Rattle.book.proofs.Steps.{step-unformed, back-closed, step-nothing, back-small, step-undone}
+use borrow.Author.Needs.{needs}
+use Rattle.book.proofs.Book.take_back.Statement.{statement}
+use Rattle.book.proofs.Book.take_back.Tie as tie
+use Rattle.book.proofs.Book.take_back.Reads as reads
+use Rattle.book.proofs.Book.take_back.Lts as lts
+use Rattle.book.proofs.Book.undone.Reads as undone-reads
+use Rattle.book.proofs.in_form.Reads as in-form-reads
+
+sized : (s : tie.Start) → Sized (s .args .self)
+sized s = record { terms-12 = search needs; cells-90 = search needs; changes-128 = search needs }
+
+in-form-requires : tie.Need-in-form-requires
+in-form-requires c κs = search needs
+
+returns : tie.Need-returns
+returns c =
+    back-closed _ (sized (c .before .before .before .before)) (known (c .before .before .before .in-form .ensures) (c .before .before .if1 .taken)) (c .if2 .taken)
+
+returns-2 : tie.Need-returns-2
+returns-2 c =
+    step-nothing _ (sized (c .before .before .before .before .before .before)) (known (c .before .before .before .before .before .in-form .ensures) (c .before .before .before .before .if1 .taken)) (c .before .before .if2 .left) (c .if3 .taken)
+
+undone-requires : tie.Need-undone-requires
+undone-requires c κs =
+    let z : 0 < c .before .before .before .before .before .before .args .self .kept = omega arith in
+    (back-small (c .before .before .before .before .before .before .args .self) (sized (c .before .before .before .before .before .before)) (known (c .before .before .before .before .before .in-form .ensures) (c .before .before .before .before .if1 .taken)) (c .before .before .if2 .left) z, z)
+
+returns-3 : tie.Need-returns-3
+returns-3 c =
+    let z : 0 < c .before .before .before .before .before .before .before .args .self .kept = omega arith in
+    ap (λ (b : Book). step 0 b) (c .undone .ensures) ∙ step-undone (c .before .before .before .before .before .before .before .args .self) (sized (c .before .before .before .before .before .before .before)) (known (c .before .before .before .before .before .before .in-form .ensures) (c .before .before .before .before .before .if1 .taken)) (c .before .before .before .if2 .left) z
+
+returns-4 : tie.Need-returns-4
+returns-4 c =
+    step-unformed _ _ (known (c .before .in-form .ensures) (c .if1 .left))
+
+pub take-back-spec : {M : Type 1} → statement M
+take-back-spec =
+    tie.close (tie.spec in-form-requires returns returns-2 undone-requires returns-3 returns-4)

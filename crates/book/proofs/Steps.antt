@@ -1,0 +1,318 @@
+-- The ways out of an act on a book.
+-- Assumes nothing.
+use Prim.Native.Nat.{ℕ, zero, suc, _+_, _*_, _-_, _≤_, _<_, min}
+use native.Mathlib.Omega.{arith}
+use native.Mathlib.Nat.{mul-comm}
+use mathlib.Core.Path.{_≡_, refl, sym, ap, _∙_, subst}
+use mathlib.Core.Bool.{Bool, true, false, cond, not, _&&_}
+use mathlib.Core.Option.{Option, none, some, Option·map}
+use mathlib.Core.List.{List, [], _∷_, _++_}
+use lib.ListN.{length, getD, set, take, drop, length-take, length-drop}
+use lib.Seq.{drop-drop}
+use lib.Dec.{eqb, ltb}
+use lib.IntN.{ℤ}
+use borrow.Author.Tests.{eq-eqb, ne-eqb, eqb-true, eqb-false, ltb-true, ltb-false}
+use Rattle.paper.specs.Procedure.{PLACES, KEPT}
+use Rattle.paper.specs.Units.{Triple, Terms, Place, inRange, inSheet, number, pointOf, isEmpty, near, Spot}
+use Rattle.paper.specs.Books as paper
+use Rattle.paper.specs.Calls.{Act, begin, enter, correct, withdraw, takeBack, strike, makes, undoes, effect, affected}
+use Rattle.paper.specs.TurnedAway.{Rule, _when_, isClosed, empty, far, nothingKept, lowest, rules}
+use Rattle.paper.specs.Alone.{refusedAlone, next}
+use Rattle.paper.specs.Answers.{unless}
+use Rattle.paper.proofs.Tests.{below, told-point}
+use Rattle.paper.proofs.Form.{parts, AllFit}
+use Rattle.words.specs.Paste.{pasted}
+use Rattle.image.specs.Lengths.{triple, termsOf, termWordsOr, wordOr}
+use Rattle.image.specs.Places.{spotOf, spotAt, placesOf, cellsOf, spotWords}
+use Rattle.image.specs.Changes.{change, entries, changeWords, changesOf, zeros}
+use Rattle.image.proofs.Lengths.{words-terms}
+use Rattle.image.proofs.Places.{place-at, cells-set, cells-spots, words-spot, length-spots}
+use Rattle.image.proofs.Changes.{length-entries, entries-cons, changes-entries, changes-push, changes-pop}
+use Rattle.image.proofs.Bounds.{near-words, near-short, words-of, range-given, terms-given}
+use Rattle.changes.specs.Kept.{pushed, popped, more}
+use Rattle.book.specs.declared.Book.{Book}
+use Rattle.book.specs.declared.Step.{Step}
+use Rattle.book.specs.Meaning.{bookOf, openOf, meant, bookForm, seen}
+use Rattle.book.specs.Steps.{step, stepOf, aim, aimOf, changedOf, undoneOf, placedOf, begunOf}
+use Rattle.book.proofs.Meaning.{Sized, book-parts, Sound, form-sound, meant-closed, meant-open, form-book, seen-in, seen-out}
+
+-- what the calls see of it
+abbrev pub sightO : Book → Option paper.Sight
+sightO b = Option·map paper.sight (meant b)
+
+-- ---- refused, or done
+
+module _ (b : Book) (a : Act) where
+  pub step-unformed : bookForm b ≡ false → step 1 b ≡ stepOf a b
+  unfolding stepOf refusedAlone next
+  step-unformed e = rw (seen-out b e)
+
+  step-seen : bookForm b ≡ true → stepOf a b ≡ step (lowest (rules a (sightO b))) (bookOf (unless (lowest (rules a (sightO b))) (affected (effect a) (meant b)) (meant b)))
+  unfolding stepOf refusedAlone next
+  step-seen e = rw (seen-in b e)
+
+  pub step-refused : (n : ℕ) → Sized b → bookForm b ≡ true → lowest (rules a (sightO b)) ≡ suc n → step (suc n) b ≡ stepOf a b
+  step-refused n s e r = sym (step-seen e ∙ rw (r, form-book b s e))
+
+  pub step-done : (b′ : Book) → bookForm b ≡ true → lowest (rules a (sightO b)) ≡ 0 → b′ ≡ bookOf (affected (effect a) (meant b)) → step 0 b′ ≡ stepOf a b
+  step-done b′ e r w = sym (step-seen e ∙ rw (r, w))
+
+-- ---- the words of an open book in form
+
+module _ (b : Book) (s : Sized b) (o : Sound b) where
+  kept-words : changesOf KEPT (entries (b .kept) (b .changes)) ≡ b .changes
+  kept-words = changes-entries KEPT (b .kept) (b .changes) (s .changes-128) (o .few) (rw (mul-comm 4 (b .kept)) (o .rest))
+
+  cell-words : cellsOf (placesOf (b .cells)) ≡ b .cells
+  unfolding placesOf
+  cell-words = cells-spots PLACES (b .cells) (s .cells-90)
+
+  length-places : length (placesOf (b .cells)) ≡ PLACES
+  unfolding placesOf
+  length-places = length-spots PLACES (b .cells)
+
+  pub kept-count : length (openOf b .kept) ≡ b .kept
+  unfolding openOf
+  kept-count = length-entries (b .kept) (b .changes)
+
+  pub ranged : inRange (termsOf (b .terms)) ≡ true
+  unfolding openOf
+  ranged = parts (openOf b) (o .formed) .ranged
+
+-- ---- a call on a place
+
+-- the place is in the sheet and the book, which is in form, is open
+pub record On (b : Book) (p : Place) (q : ℕ) : Type 0 where
+  pub form : bookForm b ≡ true
+  pub in-sheet : inSheet p ≡ true
+  pub opened : b .opened ≡ 0 → ⊥
+  pub at : q ≡ number p
+
+-- rules that begin with PLACE and CLOSED
+abbrev pub placed : Book → Place → List Rule → List Rule
+placed b p rest = 2 when not (inSheet p) ∷ 5 when isClosed (sightO b) ∷ rest
+
+module _ (b : Book) (p : Place) where
+  pub aim-on : (q : ℕ) → aimOf b p .refusal ≡ 0 → q ≡ aimOf b p .place → On b p q
+  unfolding aimOf
+  aim-on q e f = go (bookForm b) (inSheet p) (eqb (b .opened) 0) refl refl refl e f
+    where
+      go : (i j k : Bool) → bookForm b ≡ i → inSheet p ≡ j → eqb (b .opened) 0 ≡ k
+          → cond i (cond j (cond k (aim 5 0) (aim 0 (number p))) (aim 2 0)) (aim 1 0) .refusal ≡ 0
+          → q ≡ cond i (cond j (cond k (aim 5 0) (aim 0 (number p))) (aim 2 0)) (aim 1 0) .place
+          → On b p q
+      go true true false u v w e f = record { form = u; in-sheet = v; opened = eqb-false (b .opened) 0 w; at = f }
+      go true true true u v w e f = absurd (omega arith)
+      go true false k u v w e f = absurd (omega arith)
+      go false j k u v w e f = absurd (omega arith)
+
+  pub aim-refused : (a : Act) (rest : List Rule) (n : ℕ) → Sized b → rules a (sightO b) ≡ placed b p rest → n ≡ aimOf b p .refusal → (n ≡ 0 → ⊥) → step n b ≡ stepOf a b
+  unfolding aimOf lowest
+  aim-refused a rest n s r e f = go (bookForm b) (inSheet p) (eqb (b .opened) 0) refl refl refl e
+    where
+      go : (i j k : Bool) → bookForm b ≡ i → inSheet p ≡ j → eqb (b .opened) 0 ≡ k
+          → n ≡ cond i (cond j (cond k (aim 5 0) (aim 0 (number p))) (aim 2 0)) (aim 1 0) .refusal
+          → step n b ≡ stepOf a b
+      go false j k u v w e = rw e (step-unformed b a u)
+      go true false k u v w e = rw e (step-refused b a 1 s u (rw (r, v)))
+      go true true true u v w e = rw e (step-refused b a 4 s u (rw (r, v, meant-closed b (eqb-true (b .opened) 0 w))))
+      go true true false u v w e = absurd (f e)
+
+module _ (b : Book) (s : Sized b) (p : Place) (q : ℕ) (o : On b p q) where
+  pub place-small : q < PLACES
+  place-small = rw (o .at) (below p (o .in-sheet))
+
+  sound : Sound b
+  sound = form-sound b (o .form) (o .opened)
+
+  pub on-rules : (a : Act) (rest : List Rule) → rules a (sightO b) ≡ placed b p rest → lowest (rules a (sightO b)) ≡ lowest rest
+  unfolding lowest
+  on-rules a rest r = rw (r, o .in-sheet, meant-open b (o .opened))
+
+  -- ---- the tests of a place
+
+  pub spot-there : getD (openOf b .places) (number p) none ≡ spotAt (b .cells) (q * 3)
+  unfolding openOf
+  spot-there = rw (← o .at) (place-at (b .cells) q place-small)
+
+  pub empty-is : empty p (sightO b) ≡ isEmpty (spotAt (b .cells) (q * 3))
+  unfolding empty paper.sight
+  empty-is = rw (meant-open b (o .opened)) (ap isEmpty spot-there)
+
+  far-is : (x y h : ℤ) → far p (record { x = x; y = y; h = h }) (sightO b) ≡ not (near (termsOf (b .terms)) (pointOf q) (triple (wordOr x) (wordOr y) (wordOr h)))
+  unfolding far paper.sight openOf
+  far-is x y h =
+      rw (meant-open b (o .opened), o .at, told-point p (o .in-sheet), near-words (termsOf (b .terms)) (p .point) x y h (ranged b s sound))
+
+  -- ---- the change
+
+  more-is : (n : ℕ) → n ≤ KEPT → suc (min 31 n) ≡ more n
+  more-is n h = go (ltb n KEPT) refl
+    where
+      go : (t : Bool) → ltb n KEPT ≡ t → suc (min 31 n) ≡ cond t (n + 1) KEPT
+      go true e = omega (arith, ltb-true n KEPT e)
+      go false e = omega (arith, ltb-false n KEPT e)
+
+  words-before : changeWords (change q (spotAt (b .cells) (q * 3))) ≡ q ∷ getD (b .cells) (q * 3) 0 ∷ getD (b .cells) (q * 3 + 1) 0 ∷ getD (b .cells) (q * 3 + 2) 0 ∷ []
+  unfolding changeWords
+  words-before = rw (words-spot (getD (b .cells) (q * 3) 0) (getD (b .cells) (q * 3 + 1) 0) (getD (b .cells) (q * 3 + 2) 0))
+
+  pub change-is : (v : Spot) → changedOf b q (spotWords v) ≡ bookOf (affected (makes (change (number p) v)) (meant b))
+  unfolding changedOf bookOf affected paper.changed paper.make paper.inverse openOf pushed
+  change-is v =
+      rw (meant-open b (o .opened), ← o .at, place-at (b .cells) q place-small)
+      (book-parts _ _ _ _ _ _ _ _ _ _ (sound .opened)
+      (sym (words-terms (b .terms) (s .terms-12)))
+      (sym (cells-set (placesOf (b .cells)) q v (rw (length-places b s sound) place-small) ∙ ap (λ (l : List ℕ). pasted l (q * 3) (spotWords v)) (cell-words b s sound)))
+      (sym (ap suc (length-take 31 (entries (b .kept) (b .changes)) ∙ ap (min 31) (length-entries (b .kept) (b .changes))) ∙ more-is (b .kept) (sound .few)))
+      (sym (changes-push 31 (change q (spotAt (b .cells) (q * 3))) (entries (b .kept) (b .changes)) ∙ rw (words-before, kept-words b s sound))))
+
+  -- ---- an act that puts a reading where it may stand: 8, or the change
+  pub placed-is : (a : Act) (x y h : ℤ) → effect a ≡ makes (change (number p) (some (record { x = x; y = y; h = h })))
+      → lowest (rules a (sightO b)) ≡ lowest (8 when far p (record { x = x; y = y; h = h }) (sightO b) ∷ [])
+      → placedOf b q (wordOr x) (wordOr y) (wordOr h) ≡ stepOf a b
+  unfolding placedOf lowest
+  placed-is a x y h ef r = go (near (termsOf (b .terms)) (pointOf q) (triple (wordOr x) (wordOr y) (wordOr h))) refl
+    where
+      v : Triple
+      v = record { x = x; y = y; h = h }
+
+      in-range : inRange (termsOf (b .terms)) ≡ true
+      in-range = ranged b s sound
+
+      go : (n : Bool) → near (termsOf (b .terms)) (pointOf q) (triple (wordOr x) (wordOr y) (wordOr h)) ≡ n
+          → cond n (step 0 (changedOf b q (wordOr x ∷ wordOr y ∷ wordOr h ∷ []))) (step 8 b) ≡ stepOf a b
+      go false e = step-refused b a 7 s (o .form) (r ∙ rw (far-is x y h, e))
+      go true e =
+          let close : near (termsOf (b .terms)) (pointOf q) v ≡ true = sym (near-words (termsOf (b .terms)) (pointOf q) x y h in-range) ∙ e in
+          let w = words-of x y h (near-short (termsOf (b .terms)) (pointOf q) v in-range close) in
+          step-done b a (changedOf b q (wordOr x ∷ wordOr y ∷ wordOr h ∷ [])) (o .form) (r ∙ rw (far-is x y h, e)) (rw (w, ef) (change-is (some v)))
+
+  -- ---- enter, correct, withdraw: the place is filled, or empty, or may be changed
+
+  pub entered : (x y h : ℤ) → isEmpty (spotAt (b .cells) (q * 3)) ≡ true → placedOf b q (wordOr x) (wordOr y) (wordOr h) ≡ stepOf (enter p (record { x = x; y = y; h = h })) b
+  unfolding rules effect lowest
+  entered x y h e = placed-is (enter p (record { x = x; y = y; h = h })) x y h refl (on-rules (enter p (record { x = x; y = y; h = h })) _ refl ∙ rw (empty-is, e))
+
+  pub enter-filled : (v : Triple) → isEmpty (spotAt (b .cells) (q * 3)) ≡ false → step 6 b ≡ stepOf (enter p v) b
+  unfolding rules lowest
+  enter-filled v e = step-refused b (enter p v) 5 s (o .form) (on-rules (enter p v) _ refl ∙ rw (empty-is, e))
+
+  pub corrected : (x y h : ℤ) → isEmpty (spotAt (b .cells) (q * 3)) ≡ false → placedOf b q (wordOr x) (wordOr y) (wordOr h) ≡ stepOf (correct p (record { x = x; y = y; h = h })) b
+  unfolding rules effect lowest
+  corrected x y h e = placed-is (correct p (record { x = x; y = y; h = h })) x y h refl (on-rules (correct p (record { x = x; y = y; h = h })) _ refl ∙ rw (empty-is, e))
+
+  pub correct-empty : (v : Triple) → isEmpty (spotAt (b .cells) (q * 3)) ≡ true → step 7 b ≡ stepOf (correct p v) b
+  unfolding rules lowest
+  correct-empty v e = step-refused b (correct p v) 6 s (o .form) (on-rules (correct p v) _ refl ∙ rw (empty-is, e))
+
+  pub withdrawn : isEmpty (spotAt (b .cells) (q * 3)) ≡ false → step 0 (changedOf b q (0 ∷ 0 ∷ 0 ∷ [])) ≡ stepOf (withdraw p) b
+  unfolding rules effect lowest spotWords
+  withdrawn e = step-done b (withdraw p) (changedOf b q (0 ∷ 0 ∷ 0 ∷ [])) (o .form) (on-rules (withdraw p) _ refl ∙ rw (empty-is, e)) (change-is none)
+
+  pub withdraw-empty : isEmpty (spotAt (b .cells) (q * 3)) ≡ true → step 7 b ≡ stepOf (withdraw p) b
+  unfolding rules lowest
+  withdraw-empty e = step-refused b (withdraw p) 6 s (o .form) (on-rules (withdraw p) _ refl ∙ rw (empty-is, e))
+
+-- ---- take back
+
+module _ (b : Book) (s : Sized b) (e : bookForm b ≡ true) (f : b .opened ≡ 0 → ⊥) where
+  sound-b : Sound b
+  sound-b = form-sound b e f
+
+  last : paper.Change
+  last = change (getD (b .changes) 0 0) (spotAt (b .changes) 1)
+
+  older : List paper.Change
+  older = entries (b .kept - 1) (drop 4 (b .changes))
+
+  kept-is : 0 < b .kept → openOf b .kept ≡ last ∷ older
+  unfolding openOf last older
+  kept-is z = entries-cons (b .kept) (b .changes) z
+
+  pub back-small : 0 < b .kept → getD (b .changes) 0 0 < PLACES
+  unfolding last
+  back-small z = subst (λ (l : List paper.Change). AllFit (openOf b .terms) (openOf b .places) l) (kept-is z) (parts (openOf b) (sound-b .formed) .fit) .0 .reaches
+
+  pub step-nothing : b .kept ≡ 0 → step 9 b ≡ stepOf takeBack b
+  unfolding lowest rules nothingKept paper.sight
+  step-nothing z = step-refused b takeBack 8 s e (rw (meant-open b f, kept-count b s sound-b, z))
+
+  rest-words : 0 < b .kept → changesOf 31 older ≡ drop 4 (b .changes)
+  unfolding older
+  rest-words z =
+      let l : length (drop 4 (b .changes)) ≡ 4 * 31 = rw length-drop (omega (arith, s .changes-128)) in
+      let m : 4 * (b .kept - 1) + 4 ≡ b .kept * 4 = omega arith in
+      changes-entries 31 (b .kept - 1) (drop 4 (b .changes)) l (omega (arith, sound-b .few))
+      (rw (drop-drop (4 * (b .kept - 1)) 4 (b .changes)) (subst (λ (n : ℕ). zeros (drop n (b .changes)) ≡ true) (swap z) (sound-b .rest)))
+    where
+      swap : 0 < b .kept → b .kept * 4 ≡ 4 + 4 * (b .kept - 1)
+      swap z = omega arith
+
+  older-length : length older ≡ b .kept - 1
+  unfolding older
+  older-length = length-entries (b .kept - 1) (drop 4 (b .changes))
+
+  undone-is : 0 < b .kept → undoneOf b ≡ bookOf (affected undoes (meant b))
+  unfolding undoneOf bookOf affected paper.undone paper.make openOf popped last
+  undone-is z =
+      rw (meant-open b f, kept-is z)
+      (book-parts _ _ _ _ _ _ _ _ _ _ (sound-b .opened)
+      (sym (words-terms (b .terms) (s .terms-12)))
+      (sym (cells-set (placesOf (b .cells)) (getD (b .changes) 0 0) (spotAt (b .changes) 1) (rw (length-places b s sound-b) (back-small z)) ∙ rw (cell-words b s sound-b, words-spot (getD (b .changes) 1 0) (getD (b .changes) 2 0) (getD (b .changes) 3 0))))
+      (sym older-length)
+      (rw (← rest-words z) (changes-pop 31 older (omega (arith, older-length, sound-b .few)))))
+
+  pub step-undone : 0 < b .kept → step 0 (undoneOf b) ≡ stepOf takeBack b
+  unfolding lowest rules nothingKept paper.sight effect
+  step-undone z = step-done b takeBack (undoneOf b) e (rw (meant-open b f, kept-count b s sound-b, ne-eqb (b .kept) 0 (λ h. omega arith))) (undone-is z)
+
+-- ---- closed or open, where no place is asked for
+
+module _ (b : Book) (s : Sized b) (e : bookForm b ≡ true) where
+  pub back-closed : b .opened ≡ 0 → step 5 b ≡ stepOf takeBack b
+  unfolding rules lowest
+  back-closed z = step-refused b takeBack 4 s e (rw (meant-closed b z))
+
+  pub strike-closed : b .opened ≡ 0 → step 5 b ≡ stepOf strike b
+  unfolding rules lowest
+  strike-closed z = step-refused b strike 4 s e (rw (meant-closed b z))
+
+  pub struck : (b′ : Book) → (b .opened ≡ 0 → ⊥) → b′ ≡ bookOf none → step 0 b′ ≡ stepOf strike b
+  unfolding rules lowest effect affected
+  struck b′ f w = step-done b strike b′ e (rw (meant-open b f)) w
+
+  module _ (t : Terms) where
+    pub begin-open : (b .opened ≡ 0 → ⊥) → step 3 b ≡ stepOf (begin t) b
+    unfolding rules lowest
+    begin-open f = step-refused b (begin t) 2 s e (rw (meant-open b f))
+
+    pub begin-range : b .opened ≡ 0 → inRange t ≡ false → step 4 b ≡ stepOf (begin t) b
+    unfolding rules lowest
+    begin-range z r = step-refused b (begin t) 3 s e (rw (meant-closed b z, r))
+
+    pub begun-with : (b′ : Book) → b .opened ≡ 0 → inRange t ≡ true → b′ ≡ bookOf (some (paper.blank t)) → step 0 b′ ≡ stepOf (begin t) b
+    unfolding rules lowest effect affected
+    begun-with b′ z r w = step-done b (begin t) b′ e (rw (meant-closed b z, r)) w
+
+-- terms of any size are opened as their words are
+pub begin-given : (b : Book) (t : Terms) → Sized b → stepOf (begin (termsOf (termWordsOr t))) b ≡ stepOf (begin t) b
+begin-given b t s = go (bookForm b) (inRange t) (eqb (b .opened) 0) refl refl refl
+  where
+    u : Terms
+    u = termsOf (termWordsOr t)
+
+    go : (i r z : Bool) → bookForm b ≡ i → inRange t ≡ r → eqb (b .opened) 0 ≡ z → stepOf (begin u) b ≡ stepOf (begin t) b
+    go false r z e f g = sym (step-unformed b (begin u) e) ∙ step-unformed b (begin t) e
+    go true true z e f g = ap (λ (v : Terms). stepOf (begin v) b) (terms-given t f)
+    go true false true e f g =
+        let c = eqb-true (b .opened) 0 g in
+        sym (begin-range b s e u c (range-given t ∙ f)) ∙ begin-range b s e t c f
+    go true false false e f g =
+        let o = eqb-false (b .opened) 0 g in
+        sym (begin-open b s e u o) ∙ begin-open b s e t o
+
+-- the words of a blank book
+pub blank-words : (t : List ℕ) → length t ≡ 12 → begunOf t ≡ bookOf (some (paper.blank (termsOf t)))
+unfolding begunOf bookOf paper.blank paper.nothing cellsOf spotWords changesOf
+blank-words t n = rw (words-terms t n)

@@ -1,0 +1,14 @@
+use mathlib.Core.Path.{refl}
+use Rattle.book.specs.Meaning.{bookOf}
+use Rattle.book.proofs.closed.Statement.{statement}
+use Rattle.book.proofs.closed.Tie as tie
+use Rattle.book.proofs.closed.Reads as reads
+use Rattle.book.proofs.closed.Lts as lts
+
+returns : tie.Need-returns
+unfolding bookOf
+returns c =
+    refl
+
+pub closed-spec : {M : Type 1} → statement M
+closed-spec = tie.close (tie.spec returns)

@@ -1,0 +1,48 @@
+-- What the words of a book mean, and when they are in form: exactly the words of a closed book, or of an open one in the paper's form.
+-- (proofs/Meaning.antt: `seen b ≡ some o` says that o is in form and that b has its words; no other book in form has them.)
+use Prim.Native.Nat.{ℕ, _*_}
+use mathlib.Core.Bool.{Bool, cond, _&&_}
+use mathlib.Core.Option.{Option, none, some, Option·map}
+use lib.ListN.{length, drop, replicate}
+use lib.Dec.{eqb, leb}
+use Rattle.paper.specs.Procedure.{KEPT}
+use Rattle.paper.specs.Books as paper
+use Rattle.paper.specs.Form.{formed}
+use Rattle.image.specs.Lengths.{termsOf, termWords}
+use Rattle.image.specs.Places.{placesOf, cellsOf}
+use Rattle.image.specs.Changes.{entries, changesOf, zeros}
+use Rattle.book.specs.declared.Book.{Book}
+
+-- the words of a book: a closed one is all zero
+unfoldable pub bookOf : Option paper.Book → Book
+bookOf none = record { opened = 0; terms = replicate 12 0; cells = replicate 90 0; kept = 0; changes = replicate 128 0 }
+bookOf (some b) =
+    record {
+      opened = 1;
+      terms = termWords (b .terms);
+      cells = cellsOf (b .places);
+      kept = length (b .kept);
+      changes = changesOf KEPT (b .kept);
+    }
+
+-- what the words of an open book mean, nonsense included
+unfoldable pub openOf : Book → paper.Book
+openOf b = record { terms = termsOf (b .terms); places = placesOf (b .cells); kept = entries (b .kept) (b .changes) }
+
+unfoldable pub meant : Book → Option paper.Book
+meant b = cond (eqb (b .opened) 0) none (some (openOf b))
+
+-- a closed book is empty
+unfoldable pub blank : Book → Bool
+blank b = eqb (b .kept) 0 && (zeros (b .terms) && (zeros (b .cells) && zeros (b .changes)))
+
+-- an open one is in the paper's form, and words that are not used are 0
+unfoldable pub sound : Book → Bool
+sound b = leb (b .kept) KEPT && (zeros (drop (b .kept * 4) (b .changes)) && formed (openOf b))
+
+unfoldable pub bookForm : Book → Bool
+bookForm b = cond (eqb (b .opened) 0) (blank b) (eqb (b .opened) 1 && sound b)
+
+-- the book that the words stand for; none where they are not in form
+unfoldable pub seen : Book → Option (Option paper.Book)
+seen b = cond (bookForm b) (some (meant b)) none

@@ -1,0 +1,99 @@
+-- What an act makes of a book by itself: the paper's refusal, and the words of the paper's next book, or the book handed in.
+use Prim.Native.Nat.{ℕ, _+_, _*_, _-_}
+use mathlib.Core.Bool.{cond}
+use mathlib.Core.Option.{Option, none, some}
+use mathlib.Core.List.{List, [], _∷_}
+use lib.ListN.{getD, length, replicate}
+use lib.Dec.{eqb}
+use Rattle.paper.specs.Units.{Triple, zeros, Place, inSheet, number, pointOf, near}
+use Rattle.paper.specs.Books as paper
+use Rattle.paper.specs.Calls.{Act}
+use Rattle.paper.specs.Answers.{Value, lengths, count, done, evaluates, same, listed, Answer}
+use Rattle.paper.specs.Alone.{refusedAlone, next}
+use Rattle.words.specs.Paste.{pasted}
+use Rattle.image.specs.Lengths.{triple, termsOf}
+use Rattle.changes.specs.Kept.{pushed, popped, more}
+use Rattle.book.specs.declared.Book.{Book}
+use Rattle.book.specs.declared.Step.{Step}
+use Rattle.book.specs.declared.Aim.{Aim}
+use Rattle.book.specs.declared.Lengths.{Lengths}
+use Rattle.book.specs.declared.Count.{Count}
+use Rattle.book.specs.Meaning.{bookOf, bookForm, seen}
+
+abbrev pub step : ℕ → Book → Step
+step n b = record { refusal = n; book = b }
+
+-- the words of the next book; those handed in where they are not in form
+abbrev pub wordsOr : Book → Option (Option paper.Book) → Book
+wordsOr b none = b
+wordsOr b (some o) = bookOf o
+
+unfoldable pub stepOf : Act → Book → Step
+stepOf a b = step (refusedAlone a (seen b)) (wordsOr b (next a (seen b)))
+
+-- ---- answers as records of numbers
+
+abbrev pub lengthsBy : ℕ → Triple → Lengths
+lengthsBy n v = record { refusal = n; x = v .x; y = v .y; h = v .h }
+
+-- what an answer says of lengths, and of a count; such a question is answered in no other way
+abbrev pub lengthsIn : Value → Triple
+lengthsIn done = zeros
+lengthsIn (lengths v) = v
+lengthsIn (count n) = zeros
+lengthsIn (evaluates e) = zeros
+lengthsIn (same b) = zeros
+lengthsIn (listed l) = zeros
+
+unfoldable pub lengthsOf : Answer → Lengths
+lengthsOf a = lengthsBy (a .refused) (lengthsIn (a .value))
+
+abbrev pub countIn : Value → ℕ
+countIn done = 0
+countIn (lengths v) = 0
+countIn (count n) = n
+countIn (evaluates e) = 0
+countIn (same b) = 0
+countIn (listed l) = length l
+
+unfoldable pub countOf : Answer → Count
+countOf a = record { refusal = a .refused; count = countIn (a .value) }
+
+-- ---- steps of the code
+
+-- 1, 2 or 5; or the number of a place of an open book
+abbrev pub aim : ℕ → ℕ → Aim
+aim n p = record { refusal = n; place = p }
+
+unfoldable pub aimOf : Book → Place → Aim
+aimOf b p = cond (bookForm b) (cond (inSheet p) (cond (eqb (b .opened) 0) (aim 5 0) (aim 0 (number p))) (aim 2 0)) (aim 1 0)
+
+-- three words v at the place p, and what stood there kept
+unfoldable pub changedOf : Book → ℕ → List ℕ → Book
+changedOf b p v =
+    record {
+      opened = b .opened;
+      terms = b .terms;
+      cells = pasted (b .cells) (p * 3) v;
+      kept = more (b .kept);
+      changes = pushed (b .changes) p (getD (b .cells) (p * 3) 0) (getD (b .cells) (p * 3 + 1) 0) (getD (b .cells) (p * 3 + 2) 0);
+    }
+
+-- the latest kept change taken back
+unfoldable pub undoneOf : Book → Book
+undoneOf b =
+    record {
+      opened = b .opened;
+      terms = b .terms;
+      cells = pasted (b .cells) (getD (b .changes) 0 0 * 3) (getD (b .changes) 1 0 ∷ getD (b .changes) 2 0 ∷ getD (b .changes) 3 0 ∷ []);
+      kept = b .kept - 1;
+      changes = popped (b .changes);
+    }
+
+-- a reading, in words, at a place where it may stand; 8 where it is far
+unfoldable pub placedOf : Book → ℕ → ℕ → ℕ → ℕ → Step
+placedOf b p x y h = cond (near (termsOf (b .terms)) (pointOf p) (triple x y h)) (step 0 (changedOf b p (x ∷ y ∷ h ∷ []))) (step 8 b)
+
+-- an open book with these terms, and nothing else in it
+unfoldable pub begunOf : List ℕ → Book
+begunOf t = record { opened = 1; terms = t; cells = replicate 90 0; kept = 0; changes = replicate 128 0 }

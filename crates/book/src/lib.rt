@@ -1,0 +1,478 @@
+// A book by itself, by value: its words, their form, and the acts on it. Any Book at all may be handed in.
+ghost use mathlib.Core.Path.{_≡_};
+ghost use mathlib.Core.List.{[], _∷_};
+ghost use mathlib.Core.Option.{none};
+ghost use Prim.Native.Nat.{_+_, _*_, _<_, _≤_};
+ghost use lib.ListN.{getD};
+ghost use Rattle.paper.specs.Units.{zeros};
+ghost use Rattle.paper.specs.Calls.{begin, strike, enter, correct, withdraw, takeBack, read, changes};
+ghost use Rattle.paper.specs.Alone.{askedAlone};
+ghost use Rattle.image.specs.Lengths.{termsOf, termsGiven};
+ghost use Rattle.book.specs.Meaning.{bookOf, blank, sound, bookForm, seen};
+ghost use Rattle.book.specs.Steps.{stepOf, aimOf, changedOf, undoneOf, placedOf, begunOf, lengthsBy, lengthsOf, countOf};
+use paper::Procedure;
+
+// Words: a length is length + 10^12, three words 0 are an empty place; the changes kept for taking back, latest first, are four words
+// each, the place and what stood there.
+pub struct Book {
+    pub opened: u64,
+    pub terms: [u64; 12],
+    pub cells: [u64; 90],
+    pub kept: u64,
+    pub changes: [u64; 128],
+}
+
+// The next book beside a refusal number; beside a refusal the book is the one handed in.
+pub struct Step {
+    pub refusal: u64,
+    pub book: Book,
+}
+
+// A book with nothing in it.
+pub fn closed() -> Book
+    ensures { λ r. ⌜ r ≡ bookOf none ⌝ }
+{
+    let terms = [0u64; 12];
+    let cells = [0u64; 90];
+    let changes = [0u64; 128];
+    Book {
+        opened: 0,
+        terms,
+        cells,
+        kept: 0,
+        changes,
+    }
+}
+
+// ---- the form
+
+// Whether a closed book is empty.
+fn is_blank(b: Book) -> bool
+    ensures { λ r. ⌜ r ≡ blank b ⌝ }
+{
+    let terms = b.terms;
+    let cells = b.cells;
+    let changes = b.changes;
+    if b.kept != 0 {
+        return false;
+    }
+    if form::zero_from(&terms, 0) {
+        if form::zero_from(&cells, 0) {
+            return form::zero_from(&changes, 0);
+        }
+        return false;
+    }
+    false
+}
+
+// Whether an open book is in form.
+fn is_sound(b: Book) -> bool
+    ensures { λ r. ⌜ r ≡ sound b ⌝ }
+{
+    let terms = b.terms;
+    let cells = b.cells;
+    let kept = b.kept;
+    let changes = b.changes;
+    if kept > Procedure::KEPT as u64 {
+        return false;
+    }
+    if form::zero_from(&changes, (kept as usize) * 4) {
+        if form::in_range(&terms) {
+            if form::all_near(&terms, &cells) {
+                return form::changes_ok(&terms, cells, kept, &changes);
+            }
+            return false;
+        }
+        return false;
+    }
+    false
+}
+
+// Whether a book is in form.
+pub fn in_form(b: Book) -> bool
+    ensures { λ r. ⌜ r ≡ bookForm b ⌝ }
+{
+    if b.opened == 0 {
+        return is_blank(b);
+    }
+    if b.opened == 1 {
+        return is_sound(b);
+    }
+    false
+}
+
+// ---- one change
+
+impl Book {
+    // The book with three words at a place, and what stood there kept.
+    fn changed(self, place: usize, x: u64, y: u64, h: u64) -> Book
+        requires { ⌜ place < 30 ⌝ }
+        ensures { λ r. ⌜ r ≡ changedOf self place (x ∷ y ∷ h ∷ []) ⌝ }
+    {
+        let opened = self.opened;
+        let terms = self.terms;
+        let old = self.cells;
+        let kept = self.kept;
+        let was = self.changes;
+        let m = place * 3;
+        let changes = changes::push(was, place as u64, old[m], old[m + 1], old[m + 2]);
+        let cells = changes::put(old, place, x, y, h);
+        Book {
+            opened,
+            terms,
+            cells,
+            kept: changes::one_more(kept),
+            changes,
+        }
+    }
+
+    // The book without its latest change.
+    fn undone(self) -> Book
+        requires { ⌜ (getD (self .changes) 0 0 < 30) × (0 < self .kept) ⌝ }
+        ensures { λ r. ⌜ r ≡ undoneOf self ⌝ }
+    {
+        let opened = self.opened;
+        let terms = self.terms;
+        let old = self.cells;
+        let kept = self.kept;
+        let was = self.changes;
+        let cells = changes::put(old, was[0] as usize, was[1], was[2], was[3]);
+        let changes = changes::pop(was);
+        Book {
+            opened,
+            terms,
+            cells,
+            kept: kept - 1,
+            changes,
+        }
+    }
+
+    // A reading, in words, where it may stand: FAR, or the change.
+    fn placed(self, place: usize, x: u64, y: u64, h: u64) -> Step
+        requires { ⌜ place < 30 ⌝ }
+        ensures { λ r. ⌜ r ≡ placedOf self place x y h ⌝ }
+    {
+        let terms = self.terms;
+        if form::near(&terms, place, x, y, h) {
+            return Step {
+                refusal: 0,
+                book: self.changed(place, x, y, h),
+            };
+        }
+        Step {
+            refusal: 8,
+            book: self,
+        }
+    }
+}
+
+// Where a call on a place goes: REGISTER, PLACE or CLOSED; or 0 and the number of the place.
+pub struct Aim {
+    pub refusal: u64,
+    pub place: usize,
+}
+
+impl Book {
+    pub fn aim(self, series: u64, set: u64, point: u64) -> Aim
+        ensures { λ r. ⌜ r ≡ aimOf self (record { series = series; set = set; point = point }) ⌝ }
+    {
+        if in_form(self) {
+            let place = image::place_of(series, set, point);
+            if place >= Procedure::PLACES {
+                return Aim {
+                    refusal: 2,
+                    place: 0,
+                };
+            }
+            if self.opened == 0 {
+                return Aim {
+                    refusal: 5,
+                    place: 0,
+                };
+            }
+            return Aim { refusal: 0, place };
+        }
+        Aim {
+            refusal: 1,
+            place: 0,
+        }
+    }
+}
+
+// An open book with these terms, no reading, and nothing to take back.
+pub fn begun(terms: [u64; 12]) -> Book
+    ensures { λ r. ⌜ r ≡ begunOf terms ⌝ }
+{
+    let cells = [0u64; 90];
+    let changes = [0u64; 128];
+    Book {
+        opened: 1,
+        terms,
+        cells,
+        kept: 0,
+        changes,
+    }
+}
+
+// ---- the acts
+
+impl Book {
+    // Enter a reading at an empty place.
+    pub fn enter(self, series: u64, set: u64, point: u64, x: i64, y: i64, h: i64) -> Step
+        ensures { λ r. ⌜ r ≡ stepOf (enter (record { series = series; set = set; point = point }) (record { x = x; y = y; h = h })) self ⌝ }
+    {
+        let aim = self.aim(series, set, point);
+        let refusal = aim.refusal;
+        let place = aim.place;
+        if refusal != 0 {
+            return Step {
+                refusal,
+                book: self,
+            };
+        }
+        let cells = self.cells;
+        if form::empty_at(&cells, place) {
+            return self.placed(
+                place,
+                image::word_of(x),
+                image::word_of(y),
+                image::word_of(h),
+            );
+        }
+        Step {
+            refusal: 6,
+            book: self,
+        }
+    }
+
+    // Correct the reading at a filled place.
+    pub fn correct(self, series: u64, set: u64, point: u64, x: i64, y: i64, h: i64) -> Step
+        ensures { λ r. ⌜ r ≡ stepOf (correct (record { series = series; set = set; point = point }) (record { x = x; y = y; h = h })) self ⌝ }
+    {
+        let aim = self.aim(series, set, point);
+        let refusal = aim.refusal;
+        let place = aim.place;
+        if refusal != 0 {
+            return Step {
+                refusal,
+                book: self,
+            };
+        }
+        let cells = self.cells;
+        if form::empty_at(&cells, place) {
+            return Step {
+                refusal: 7,
+                book: self,
+            };
+        }
+        self.placed(
+            place,
+            image::word_of(x),
+            image::word_of(y),
+            image::word_of(h),
+        )
+    }
+
+    // Withdraw the reading at a filled place.
+    pub fn withdraw(self, series: u64, set: u64, point: u64) -> Step
+        ensures { λ r. ⌜ r ≡ stepOf (withdraw (record { series = series; set = set; point = point })) self ⌝ }
+    {
+        let aim = self.aim(series, set, point);
+        let refusal = aim.refusal;
+        let place = aim.place;
+        if refusal != 0 {
+            return Step {
+                refusal,
+                book: self,
+            };
+        }
+        let cells = self.cells;
+        if form::empty_at(&cells, place) {
+            return Step {
+                refusal: 7,
+                book: self,
+            };
+        }
+        Step {
+            refusal: 0,
+            book: self.changed(place, 0, 0, 0),
+        }
+    }
+
+    // Take the latest change back.
+    pub fn take_back(self) -> Step
+        ensures { λ r. ⌜ r ≡ stepOf takeBack self ⌝ }
+    {
+        if in_form(self) {
+            if self.opened == 0 {
+                return Step {
+                    refusal: 5,
+                    book: self,
+                };
+            }
+            if self.kept == 0 {
+                return Step {
+                    refusal: 9,
+                    book: self,
+                };
+            }
+            return Step {
+                refusal: 0,
+                book: self.undone(),
+            };
+        }
+        Step {
+            refusal: 1,
+            book: self,
+        }
+    }
+
+    // Strike the book: it is closed, and nothing in it is left.
+    pub fn strike(self) -> Step
+        ensures { λ r. ⌜ r ≡ stepOf strike self ⌝ }
+    {
+        if in_form(self) {
+            if self.opened == 0 {
+                return Step {
+                    refusal: 5,
+                    book: self,
+                };
+            }
+            return Step {
+                refusal: 0,
+                book: closed(),
+            };
+        }
+        Step {
+            refusal: 1,
+            book: self,
+        }
+    }
+
+    // Open a closed book with terms, in words.
+    fn begin_words(self, terms: [u64; 12]) -> Step
+        ensures { λ r. ⌜ r ≡ stepOf (begin (termsOf terms)) self ⌝ }
+    {
+        if in_form(self) {
+            if self.opened != 0 {
+                return Step {
+                    refusal: 3,
+                    book: self,
+                };
+            }
+            if form::in_range(&terms) {
+                return Step {
+                    refusal: 0,
+                    book: begun(terms),
+                };
+            }
+            return Step {
+                refusal: 4,
+                book: self,
+            };
+        }
+        Step {
+            refusal: 1,
+            book: self,
+        }
+    }
+}
+
+impl Book {
+    // Open a closed book with terms.
+    pub fn begin(
+        self,
+        distance: i64,
+        height: i64,
+        sxy: i64,
+        sh: i64,
+        gxy: i64,
+        gh: i64,
+        x1: i64,
+        y1: i64,
+        h1: i64,
+        x2: i64,
+        y2: i64,
+        h2: i64,
+    ) -> Step
+        ensures { λ r. ⌜ r ≡ stepOf (begin (termsGiven distance height sxy sh gxy gh x1 y1 h1 x2 y2 h2)) self ⌝ }
+    {
+        let terms = image::terms_of(distance, height, sxy, sh, gxy, gh, x1, y1, h1, x2, y2, h2);
+        self.begin_words(terms)
+    }
+}
+
+// ---- questions
+
+#[repr(C)]
+pub struct Lengths {
+    pub refusal: u64,
+    pub x: i64,
+    pub y: i64,
+    pub h: i64,
+}
+
+#[repr(C)]
+pub struct Count {
+    pub refusal: u64,
+    pub count: u64,
+}
+
+// Beside a refusal lengths are 0.
+pub fn no_lengths(refusal: u64) -> Lengths
+    ensures { λ r. ⌜ r ≡ lengthsBy refusal zeros ⌝ }
+{
+    Lengths {
+        refusal,
+        x: 0,
+        y: 0,
+        h: 0,
+    }
+}
+
+impl Book {
+    // What stands at a place.
+    pub fn read(self, series: u64, set: u64, point: u64) -> Lengths
+        ensures { λ r. ⌜ r ≡ lengthsOf (askedAlone (λ k. read k (record { series = series; set = set; point = point })) (seen self)) ⌝ }
+    {
+        let aim = self.aim(series, set, point);
+        let refusal = aim.refusal;
+        let place = aim.place;
+        if refusal != 0 {
+            return no_lengths(refusal);
+        }
+        let cells = self.cells;
+        if form::empty_at(&cells, place) {
+            return no_lengths(7);
+        }
+        let m = place * 3;
+        Lengths {
+            refusal: 0,
+            x: image::length_of(cells[m]),
+            y: image::length_of(cells[m + 1]),
+            h: image::length_of(cells[m + 2]),
+        }
+    }
+
+    // How many changes can be taken back.
+    pub fn count(self) -> Count
+        ensures { λ r. ⌜ r ≡ countOf (askedAlone changes (seen self)) ⌝ }
+    {
+        if in_form(self) {
+            if self.opened == 0 {
+                return Count {
+                    refusal: 5,
+                    count: 0,
+                };
+            }
+            return Count {
+                refusal: 0,
+                count: self.kept,
+            };
+        }
+        Count {
+            refusal: 1,
+            count: 0,
+        }
+    }
+}

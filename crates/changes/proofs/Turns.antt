@@ -1,0 +1,21 @@
+-- A turn of the copy, and what one more makes.
+-- Assumes nothing.
+use mathlib.Core.Path.{_≡_}
+use mathlib.Core.List.{List, [], _∷_, _++_, append-nil}
+use Prim.Native.Nat.{ℕ, _+_, _<_}
+use native.Mathlib.Omega.{arith}
+use native.Mathlib.Numerals.{add-one}
+use lib.ListN.{length, take, drop, getD, set}
+use lib.Seq.{drop-cons, set-at, take-suc, append-snoc, length-take-le}
+use Rattle.changes.specs.Kept.{pushed}
+
+pub copy-turn : (xs out₀ : List ℕ) (i : ℕ) → i < length xs → length out₀ ≡ length xs
+    → set (take i xs ++ drop i out₀) i (getD xs i 0) ≡ take (i + 1) xs ++ drop (i + 1) out₀
+copy-turn xs out₀ i h e =
+    let k : i < length out₀ = omega arith in
+    let l : length (take i xs) ≡ i = length-take-le i xs (omega arith) in
+    rw (drop-cons out₀ i 0, set-at (take i xs) _ _ _ i l, add-one i, take-suc xs i 0, append-snoc)
+
+pub pushed-eq : (old l : List ℕ) (p x y h : ℕ) → l ≡ take 124 old → p ∷ x ∷ y ∷ h ∷ (l ++ []) ≡ pushed old p x y h
+unfolding pushed
+pushed-eq old l p x y h e = rw (append-nil, e)

@@ -1,0 +1,52 @@
+use Prim.Native.Nat.{_≤_}
+use native.Mathlib.Omega.{arith}
+use lib.ListN.{length, drop, length-drop}
+use lib.Seq.{take-all}
+use Rattle.changes.specs.Kept.{popped}
+use borrow.Author.Needs.{needs}
+use Rattle.changes.proofs.pop.Statement.{statement}
+use Rattle.changes.proofs.pop.Tie as tie
+use Rattle.changes.proofs.pop.Reads as reads
+use Rattle.changes.proofs.pop.Lts as lts
+use Rattle.changes.proofs.copy.Reads as copy-reads
+
+sub-copy : tie.Need-sub-copy
+sub-copy c = search needs
+
+part-copy-start : tie.Need-part-copy-start
+part-copy-start c = search needs
+
+part-copy-end : tie.Need-part-copy-end
+part-copy-end c = search needs
+
+sub-copy-2 : tie.Need-sub-copy-2
+sub-copy-2 c = search needs
+
+part-out-start : tie.Need-part-out-start
+part-out-start c = search needs
+
+part-out-end : tie.Need-part-out-end
+part-out-end c = search needs
+
+copy-requires : tie.Need-copy-requires
+copy-requires c κs = search needs
+
+returns : tie.Need-returns
+unfolding popped
+returns c =
+    let s = c .before .before .before .before .before in
+    let l : length (drop 4 (s .args .t1)) ≤ 124 = simp length-drop (omega (arith, s)) in
+    simp (c .before .copy .ensures, take-all 124 (drop 4 (s .args .t1)) l)
+
+pub pop-spec : {M : Type 1} → statement M
+pop-spec =
+    tie.close
+    (tie.spec
+    sub-copy
+    part-copy-start
+    part-copy-end
+    sub-copy-2
+    part-out-start
+    part-out-end
+    copy-requires
+    returns)

@@ -1,0 +1,88 @@
+-- The ways out of an evaluation, and of the pass list's test.
+-- Assumes nothing.
+use Prim.Native.Nat.{ℕ, zero, suc}
+use native.Mathlib.Omega.{arith}
+use mathlib.Core.Path.{_≡_, refl, ap, _∙_}
+use mathlib.Core.Bool.{true, false}
+use mathlib.Core.Option.{Option, none, some}
+use mathlib.Core.List.{List}
+use lib.Dec.{eqb}
+use borrow.Author.Tests.{eq-eqb, ne-eqb}
+use Rattle.paper.specs.Units.{Terms, Places, isEmpty}
+use Rattle.paper.specs.Screening.{Suspect, firstSuspect}
+use Rattle.paper.specs.Figures.{doubles}
+use Rattle.paper.specs.Verdicts.{evaluation, bothWithin, verdict}
+use Rattle.paper.specs.Books.{Sight}
+use Rattle.paper.specs.Calls.{evaluate}
+use Rattle.paper.specs.TurnedAway.{some?, short, suspectOf, lowest, evaluating, questioned, evaluated, onList}
+use Rattle.paper.specs.Answers.{suspectIn, given, beside, answered, says}
+use Rattle.paper.specs.declared.Sheet.{Sheet}
+use Rattle.paper.specs.declared.Verdict.{Verdict}
+use Rattle.image.specs.Lengths.{termsOf}
+use Rattle.image.specs.Places.{placesOf}
+use Rattle.figures.specs.Judging.{evaluationIn, shownFrom, judgedFrom}
+use Rattle.figures.specs.declared.Evaluation.{Evaluation}
+use Rattle.screen.specs.Named.{foundOf}
+use Rattle.screen.specs.declared.Found.the-variants.{Nowhere, At}
+use Rattle.evaluation.specs.declared.Judgement.{Judgement}
+use Rattle.evaluation.specs.declared.Evaluated.{Evaluated}
+use Rattle.evaluation.specs.Evaluating.{sightOf, answerTo, judgementOf, doubled, passOf, notJudged, afterScreen, screenedOf}
+use Rattle.evaluation.proofs.Suspects.{none-is, some-is}
+
+-- ---- a full book
+
+pub suspect-is : (o : Option Suspect) (t : Terms) (l : Places) (i j k : ℕ) → At i j k ≡ foundOf o → notJudged 11 i j k ≡ afterScreen o t l
+unfolding afterScreen
+suspect-is o t l i j k e = rw (some-is o i j k e)
+
+pub clear-is : (o : Option Suspect) (t : Terms) (l : Places) (e : Evaluation) → Nowhere ≡ foundOf o → e ≡ evaluationIn (evaluation t l)
+    → _≡_ {A = Judgement} (record { refusal = 0; series = 0; set = 0; quantity = 0; evaluation = e }) (afterScreen o t l)
+unfolding afterScreen
+clear-is o t l e h f = rw (none-is o h, f)
+
+-- ---- any book in form
+
+module _ (t l : List ℕ) where
+  pub short-is : some? isEmpty (placesOf l) ≡ true → notJudged 10 0 0 0 ≡ judgementOf (answerTo (sightOf t l))
+  unfolding notJudged judgementOf answerTo says lowest questioned evaluating short beside
+  short-is e = rw e
+
+  by-suspect : some? isEmpty (placesOf l) ≡ false → (o : Option Suspect) → firstSuspect (termsOf t) (placesOf l) ≡ o
+      → afterScreen o (termsOf t) (placesOf l) ≡ judgementOf (answerTo (sightOf t l))
+  unfolding notJudged afterScreen judgementOf answerTo says lowest questioned evaluating short suspectOf suspectIn given beside evaluated
+  by-suspect e none h = rw (e, h)
+  by-suspect e (some s) h = rw (e, h)
+
+  pub full-is : some? isEmpty (placesOf l) ≡ false → screenedOf (sightOf t l) ≡ judgementOf (answerTo (sightOf t l))
+  full-is e = by-suspect e (firstSuspect (termsOf t) (placesOf l)) refl
+
+-- ---- with doubles
+
+pub doubled-is : (j : Judgement) (f : Sheet) (x h : Verdict) → f ≡ doubles (shownFrom (j .evaluation .sheet)) → x ≡ verdict (judgedFrom (j .evaluation .xy)) → h ≡ verdict (judgedFrom (j .evaluation .h))
+    → _≡_ {A = Evaluated} (record { refusal = j .refusal; series = j .series; set = j .set; quantity = j .quantity; sheet = f; xy = x; h = h }) (doubled j)
+unfolding doubled
+doubled-is j f x h ef ex eh = rw (ef, ex, eh)
+
+-- ---- the pass list
+
+by-number : (s : Option Sight) (n : ℕ) → lowest (evaluating s) ≡ n → passOf (judgementOf (answered n (evaluate 1) (λ k. s))) ≡ onList s
+unfolding judgementOf onList given bothWithin
+by-number s zero e = rw e
+by-number s (suc n) e = let z : eqb (suc n) 0 ≡ false = ne-eqb (suc n) 0 (λ h. omega arith) in rw (e, z)
+
+pass-is : (s : Sight) → passOf (judgementOf (answerTo s)) ≡ onList (some s)
+unfolding answerTo says questioned lowest
+pass-is s = by-number (some s) (lowest (evaluating (some s))) refl
+
+module _ (s : Sight) (j : Judgement) (e : j ≡ judgementOf (answerTo s)) where
+  listed : passOf j ≡ onList (some s)
+  listed = ap passOf e ∙ pass-is s
+
+  pub refused-off : (j .refusal ≡ 0 → ⊥) → false ≡ onList (some s)
+  refused-off h = rw (ne-eqb (j .refusal) 0 h) at listed
+
+  pub beyond-off : j .refusal ≡ 0 → j .evaluation .xy .within ≡ false → false ≡ onList (some s)
+  beyond-off h g = rw (eq-eqb (j .refusal) 0 h, g) at listed
+
+  pub within-on : j .refusal ≡ 0 → j .evaluation .xy .within ≡ true → j .evaluation .h .within ≡ onList (some s)
+  within-on h g = rw (eq-eqb (j .refusal) 0 h, g) at listed

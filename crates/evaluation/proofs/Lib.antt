@@ -1,0 +1,4 @@
+pub mod Suspects
+pub mod Evaluating
+pub mod Comparing
+pub mod Asked

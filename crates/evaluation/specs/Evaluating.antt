@@ -1,0 +1,80 @@
+-- The evaluation of an open book in form: the paper's answer as the code's records.
+use Prim.Native.Nat.{ℕ}
+use mathlib.Core.Path.{_≡_}
+use mathlib.Core.Bool.{Bool, true, _&&_}
+use mathlib.Core.Option.{Option, none, some}
+use mathlib.Core.List.{List}
+use lib.Dec.{eqb}
+use Rattle.paper.specs.Units.{Terms, Places, inRange, allNear}
+use Rattle.paper.specs.Screening.{Suspect, firstSuspect}
+use Rattle.paper.specs.Figures.{doubles}
+use Rattle.paper.specs.Verdicts.{Evaluation, evaluation, verdict}
+use Rattle.paper.specs.Books.{Sight}
+use Rattle.paper.specs.Calls.{ask, evaluate}
+use Rattle.paper.specs.TurnedAway.{evaluated}
+use Rattle.paper.specs.Answers.{Value, done, lengths, count, evaluates, same, listed, Answer, nowhere, says}
+use Rattle.image.specs.Lengths.{termsOf}
+use Rattle.image.specs.Places.{placesOf}
+use Rattle.figures.specs.Judging.{evaluationIn, shownFrom, judgedFrom}
+use Rattle.evaluation.specs.declared.Judgement.{Judgement}
+use Rattle.evaluation.specs.declared.Evaluated.{Evaluated}
+
+-- the words of an open book in form
+abbrev pub Formed : List ℕ → List ℕ → Type 0
+Formed t l = (inRange (termsOf t) ≡ true) × (allNear (termsOf t) 0 (placesOf l) ≡ true)
+
+-- what the calls see of it. No call of this crate asks how many changes can be taken back (proofs/Asked.antt)
+abbrev pub sightOf : List ℕ → List ℕ → Sight
+sightOf t l = record { terms = termsOf t; places = placesOf l; count = 0 }
+
+-- the paper's answer, the book being number 1
+unfoldable pub answerTo : Sight → Answer
+answerTo s = says (ask (evaluate 1)) (λ k. some s)
+
+-- ---- in the code's records
+
+-- what an answer says of figures; an evaluation answers in no other way
+abbrev pub evaluationOf : Value → Evaluation
+evaluationOf done = evaluated none
+evaluationOf (lengths v) = evaluated none
+evaluationOf (count n) = evaluated none
+evaluationOf (evaluates e) = e
+evaluationOf (same b) = evaluated none
+evaluationOf (listed ks) = evaluated none
+
+abbrev pub judgementBy : ℕ → Suspect → Evaluation → Judgement
+judgementBy n s e = record { refusal = n; series = s .series; set = s .set; quantity = s .quantity; evaluation = evaluationIn e }
+
+unfoldable pub judgementOf : Answer → Judgement
+judgementOf a = judgementBy (a .refused) (a .suspect) (evaluationOf (a .value))
+
+-- the same with doubles
+unfoldable pub doubled : Judgement → Evaluated
+doubled j =
+    record {
+      refusal = j .refusal;
+      series = j .series;
+      set = j .set;
+      quantity = j .quantity;
+      sheet = doubles (shownFrom (j .evaluation .sheet));
+      xy = verdict (judgedFrom (j .evaluation .xy));
+      h = verdict (judgedFrom (j .evaluation .h));
+    }
+
+-- on the pass list, by the code's record: it evaluates, and both are within
+abbrev pub passOf : Judgement → Bool
+passOf j = eqb (j .refusal) 0 && j .evaluation .xy .within && j .evaluation .h .within
+
+-- ---- the ways out
+
+-- beside a refusal figures are 0 and verdicts beyond
+unfoldable pub notJudged : ℕ → ℕ → ℕ → ℕ → Judgement
+notJudged n i j k = judgementBy n (record { series = i; set = j; quantity = k }) (evaluated none)
+
+unfoldable pub afterScreen : Option Suspect → Terms → Places → Judgement
+afterScreen none t l = judgementBy 0 nowhere (evaluation t l)
+afterScreen (some s) t l = notJudged 11 (s .series) (s .set) (s .quantity)
+
+-- a full book
+abbrev pub screenedOf : Sight → Judgement
+screenedOf s = afterScreen (firstSuspect (s .terms) (s .places)) (s .terms) (s .places)

@@ -1,0 +1,61 @@
+-- Figures and verdicts in whole numbers and in doubles are the paper's.
+-- Assumes nothing.
+use Prim.Native.Nat.{ℕ, _-_, _*_, _≤_}
+use native.Mathlib.Omega.{arith}
+use native.Mathlib.Nat.{mul-le-mul}
+use mathlib.Core.Path.{_≡_}
+use mathlib.Core.Bool.{true, false}
+use lib.Dec.{leb}
+use lib.Ieee.{Float}
+use Rattle.whole.specs.Greatest.{greatestOf}
+use Rattle.whole.specs.Millimetres.{millimetresOf}
+use Rattle.paper.specs.Units.{Terms, Places}
+use Rattle.paper.specs.Figures.{shown, figures, doubles}
+use Rattle.paper.specs.Verdicts.{boundXY, boundH, judgedXY, judgedH, verdict, evaluation}
+use Rattle.paper.specs.declared.Sheet.{Sheet}
+use Rattle.paper.specs.declared.Verdict.the-variants.{Within, Beyond}
+use Rattle.image.specs.Lengths.{len}
+use Rattle.image.proofs.Lengths.{len-pos}
+use Rattle.figures.specs.declared.Totals.{Totals}
+use Rattle.figures.specs.declared.Shown.{Shown}
+use Rattle.figures.specs.declared.Judged.{Judged}
+use Rattle.figures.specs.declared.Evaluation.{Evaluation}
+use Rattle.figures.specs.Sums.{totalsOf}
+use Rattle.figures.specs.Judging.{judgedIn, evaluationIn, shownFrom, judgedFrom, shownBy, judgedBy}
+
+pub shown-are : (s : Totals) (x y xy h : ℕ) → x ≡ shown (s .qx) → y ≡ shown (s .qy) → xy ≡ shown (s .p) → h ≡ shown (s .qh)
+    → _≡_ {A = Shown} (record { sx = x; sy = y; sxy = xy; sh = h }) (shownBy s)
+unfolding shownBy
+shown-are s x y xy h ex ey exy eh = rw (ex, ey, exy, eh)
+
+-- the square of a stated sigma
+pub sigma² : {w : ℕ} → w ≤ 1000000010000 → (w - 1000000000000) * (w - 1000000000000) ≤ 100000000
+sigma² {w} h = let k : w - 1000000000000 ≤ 10000 = omega arith in mul-le-mul k k
+
+pub judged-is : (times most divisor chi sum w m b : ℕ) → 1000000000000 ≤ w → m ≡ shown sum
+    → b ≡ greatestOf divisor ((w - 1000000000000) * (w - 1000000000000) * chi * 1048576)
+    → _≡_ {A = Judged} (record { within = leb (times * sum) (most * ((w - 1000000000000) * (w - 1000000000000))); m = m; b = b }) (judgedIn (judgedBy times most divisor chi sum (len w)))
+unfolding judgedBy
+judged-is times most divisor chi sum w m b low em eb = rw (len-pos w low, em, eb)
+
+pub evaluation-is : (t : Terms) (l : Places) (s : Totals) (f : Shown) (x h : Judged) → s ≡ totalsOf t l → f ≡ shownBy s
+    → x ≡ judgedIn (judgedBy 40 22341 560000 7447 (s .p) (t .sigmaXY)) → h ≡ judgedIn (judgedBy 10 6201 280000 4134 (s .qh) (t .sigmaH))
+    → _≡_ {A = Evaluation} (record { sheet = f; xy = x; h = h }) (evaluationIn (evaluation t l))
+unfolding totalsOf shownBy judgedBy evaluation figures judgedXY judgedH boundXY boundH
+evaluation-is t l s f x h es ef ex eh = rw (ef, ex, eh, es)
+
+-- ---- in doubles
+
+pub sheet-is : (f : Shown) (x y xy h : Float) → x ≡ millimetresOf (f .sx) → y ≡ millimetresOf (f .sy) → xy ≡ millimetresOf (f .sxy) → h ≡ millimetresOf (f .sh)
+    → _≡_ {A = Sheet} (record { «s_x» = x; «s_y» = y; «s_xy» = xy; «s_h» = h }) (doubles (shownFrom f))
+unfolding doubles
+sheet-is f x y xy h ex ey exy eh = rw (ex, ey, exy, eh)
+
+module _ (j : Judged) (d b : Float) (ed : d ≡ millimetresOf (j .m)) (eb : b ≡ millimetresOf (j .b)) where
+  pub within-is : j .within ≡ true → Within d b ≡ verdict (judgedFrom j)
+  unfolding verdict
+  within-is e = rw (e, ed, eb)
+
+  pub beyond-is : j .within ≡ false → Beyond d b ≡ verdict (judgedFrom j)
+  unfolding verdict
+  beyond-is e = rw (e, ed, eb)
