@@ -26,9 +26,8 @@ use Rattle.image.proofs.Places.{place-at, empty-spot}
 use Rattle.image.proofs.Bounds.{spot-short, full-bound}
 use Rattle.book.specs.declared.Book.{Book}
 use Rattle.book.specs.declared.Lengths.{Lengths}
-use Rattle.book.specs.declared.Count.{Count}
 use Rattle.book.specs.Meaning.{openOf, meant, bookForm, seen}
-use Rattle.book.specs.Steps.{aim, aimOf, lengthsBy, lengthsOf, countOf}
+use Rattle.book.specs.Steps.{aim, aimOf, lengthsBy, lengthsOf, countBy, countOf}
 use Rattle.book.proofs.Meaning.{Sized, Sound, form-sound, meant-closed, meant-open, seen-in, seen-out}
 use Rattle.book.proofs.Steps.{sightO, On, placed, place-small, spot-there, empty-is, ranged, kept-count}
 
@@ -82,18 +81,15 @@ lengths-same x y h x′ y′ h′ e f g = rw (e, f, g)
 
 -- ---- the count
 
-abbrev pub counted : ℕ → ℕ → Count
-counted n m = record { refusal = n; count = m }
-
 module _ (b : Book) where
-  pub count-unformed : bookForm b ≡ false → counted 1 0 ≡ countOf (askedAlone changes (seen b))
+  pub count-unformed : bookForm b ≡ false → countBy 1 0 ≡ countOf (askedAlone changes (seen b))
   unfolding countOf askedAlone beside
   count-unformed e = rw (seen-out b e)
 
-  pub count-closed : bookForm b ≡ true → b .opened ≡ 0 → counted 5 0 ≡ countOf (askedAlone changes (seen b))
+  pub count-closed : bookForm b ≡ true → b .opened ≡ 0 → countBy 5 0 ≡ countOf (askedAlone changes (seen b))
   unfolding countOf askedAlone says lowest questioned beside
   count-closed e z = rw (seen-in b e, meant-closed b z)
 
-  pub count-open : Sized b → bookForm b ≡ true → (b .opened ≡ 0 → ⊥) → counted 0 (b .kept) ≡ countOf (askedAlone changes (seen b))
+  pub count-open : Sized b → bookForm b ≡ true → (b .opened ≡ 0 → ⊥) → countBy 0 (b .kept) ≡ countOf (askedAlone changes (seen b))
   unfolding countOf askedAlone says lowest questioned given paper.sight
   count-open s e f = rw (seen-in b e, meant-open b f, kept-count b s (form-sound b e f))

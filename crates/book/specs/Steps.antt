@@ -56,8 +56,11 @@ countIn (evaluates e) = 0
 countIn (same b) = 0
 countIn (listed l) = length l
 
+abbrev pub countBy : ℕ → ℕ → Count
+countBy n m = record { refusal = n; count = m }
+
 unfoldable pub countOf : Answer → Count
-countOf a = record { refusal = a .refused; count = countIn (a .value) }
+countOf a = countBy (a .refused) (countIn (a .value))
 
 -- ---- steps of the code
 

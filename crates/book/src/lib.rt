@@ -9,7 +9,7 @@ ghost use Rattle.paper.specs.Calls.{begin, strike, enter, correct, withdraw, ta
 ghost use Rattle.paper.specs.Alone.{askedAlone};
 ghost use Rattle.image.specs.Lengths.{termsOf, termsGiven};
 ghost use Rattle.book.specs.Meaning.{bookOf, blank, sound, bookForm, seen};
-ghost use Rattle.book.specs.Steps.{stepOf, aimOf, changedOf, undoneOf, placedOf, begunOf, lengthsBy, lengthsOf, countOf};
+ghost use Rattle.book.specs.Steps.{stepOf, aimOf, changedOf, undoneOf, placedOf, begunOf, lengthsBy, lengthsOf, countBy, countOf};
 use paper::Procedure;
 
 // Words: a length is length + 10^12, three words 0 are an empty place; the changes kept for taking back, latest first, are four words
@@ -430,6 +430,13 @@ pub fn no_lengths(refusal: u64) -> Lengths
     }
 }
 
+// Beside a refusal a count is 0.
+pub fn no_count(refusal: u64) -> Count
+    ensures { λ r. ⌜ r ≡ countBy refusal 0 ⌝ }
+{
+    Count { refusal, count: 0 }
+}
+
 impl Book {
     // What stands at a place.
     pub fn read(self, series: u64, set: u64, point: u64) -> Lengths
@@ -460,19 +467,13 @@ impl Book {
     {
         if in_form(self) {
             if self.opened == 0 {
-                return Count {
-                    refusal: 5,
-                    count: 0,
-                };
+                return no_count(5);
             }
             return Count {
                 refusal: 0,
                 count: self.kept,
             };
         }
-        Count {
-            refusal: 1,
-            count: 0,
-        }
+        no_count(1)
     }
 }

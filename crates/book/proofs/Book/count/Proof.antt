@@ -1,3 +1,4 @@
+use mathlib.Core.Path.{_∙_}
 use Rattle.form.proofs.Laws.{known}
 use Rattle.book.proofs.Meaning.{Sized}
 use Rattle.book.proofs.Asks.{count-unformed, count-closed, count-open}
@@ -7,6 +8,7 @@ use Rattle.book.proofs.Book.count.Tie as tie
 use Rattle.book.proofs.Book.count.Reads as reads
 use Rattle.book.proofs.Book.count.Lts as lts
 use Rattle.book.proofs.in_form.Reads as in-form-reads
+use Rattle.book.proofs.no_count.Reads as no-count-reads
 
 sized : (s : tie.Start) → Sized (s .args .self)
 sized s = record { terms-12 = search needs; cells-90 = search needs; changes-128 = search needs }
@@ -14,17 +16,25 @@ sized s = record { terms-12 = search needs; cells-90 = search needs; changes-128
 in-form-requires : tie.Need-in-form-requires
 in-form-requires c κs = search needs
 
+no-count-requires : tie.Need-no-count-requires
+no-count-requires c κs = search needs
+
 returns : tie.Need-returns
 returns c =
-    count-closed _ (known (c .before .before .before .in-form .ensures) (c .before .before .if1 .taken)) (c .if2 .taken)
+    c .no-count .ensures ∙ count-closed _ (known (c .before .before .before .before .in-form .ensures) (c .before .before .before .if1 .taken)) (c .before .if2 .taken)
 
 returns-2 : tie.Need-returns-2
 returns-2 c =
     count-open _ (sized (c .before .before .before .before)) (known (c .before .before .before .in-form .ensures) (c .before .before .if1 .taken)) (c .if2 .left)
 
+no-count-requires-2 : tie.Need-no-count-requires-2
+no-count-requires-2 c κs = search needs
+
 returns-3 : tie.Need-returns-3
 returns-3 c =
-    count-unformed _ (known (c .before .in-form .ensures) (c .if1 .left))
+    c .no-count2 .ensures ∙ count-unformed _ (known (c .before .before .in-form .ensures) (c .before .if1 .left))
 
 pub count-spec : {M : Type 1} → statement M
-count-spec = tie.close (tie.spec in-form-requires returns returns-2 returns-3)
+count-spec =
+    tie.close
+    (tie.spec in-form-requires no-count-requires returns returns-2 no-count-requires-2 returns-3)

@@ -1,0 +1,5 @@
+pub mod Lists
+pub mod Exact
+pub mod Agreement
+pub mod Steps
+pub mod Examples

@@ -1,0 +1,92 @@
+-- A book in a row of bytes: stored, and read back.
+-- Assumes nothing.
+use mathlib.Core.Path.{_≡_, refl, sym, ap, _∙_}
+use mathlib.Core.List.{List, [], _∷_, _++_, append-assoc}
+use Prim.Native.Nat.{ℕ, _+_, _*_, _^_, _≤_, _<_}
+use native.Mathlib.Omega.{arith}
+use lib.ListN.{length, take, drop, getD, length-append}
+use Rattle.words.specs.Words.{le, digits, words, bytesOf}
+use Rattle.words.specs.Paste.{pasted}
+use Rattle.words.proofs.Words.{length-digits, length-bytesOf, bytesOf-append}
+use Rattle.words.proofs.Paste.{pasted-then, one-word, drop-pasted, next-drop, words-front, le-front}
+use Rattle.book.specs.declared.Book.{Book}
+use Rattle.book.proofs.Meaning.{Sized}
+use Rattle.lent.specs.Image.{BOOK, wordsOf, bookAt}
+
+-- ---- what the code loads and stores
+
+pub book-eq : (bs : List ℕ) (a : ℕ) (o : ℕ) (t ce : List ℕ) (k : ℕ) (ch : List ℕ)
+    → o ≡ le (take 8 (drop a bs))
+    → t ≡ words 12 (drop (a + 8) bs)
+    → ce ≡ words 90 (drop (a + 104) bs)
+    → k ≡ le (take 8 (drop (a + 824) bs))
+    → ch ≡ words 128 (drop (a + 832) bs)
+    → _≡_ {A = Book} (record { opened = o; terms = t; cells = ce; kept = k; changes = ch }) (bookAt bs a)
+unfolding bookAt
+book-eq bs a o t ce k ch e₀ e₁ e₂ e₃ e₄ = cc
+
+pub book-bytes : (b : Book)
+    → digits 8 (b .opened) ++ bytesOf (b .terms) ++ bytesOf (b .cells) ++ digits 8 (b .kept) ++ bytesOf (b .changes) ≡ bytesOf (wordsOf b)
+unfolding wordsOf
+book-bytes b = simp (bytesOf-append, one-word)
+
+pub stored : (r r₁ r₂ r₃ r₄ r₅ : List ℕ) (a : ℕ) (b : Book) → Sized b → a + BOOK ≤ length r
+    → r₁ ≡ pasted r a (digits 8 (b .opened))
+    → r₂ ≡ pasted r₁ (a + 8) (bytesOf (b .terms))
+    → r₃ ≡ pasted r₂ (a + 104) (bytesOf (b .cells))
+    → r₄ ≡ pasted r₃ (a + 824) (digits 8 (b .kept))
+    → r₅ ≡ pasted r₄ (a + 832) (bytesOf (b .changes))
+    → r₅ ≡ pasted r a (bytesOf (wordsOf b))
+stored r r₁ r₂ r₃ r₄ r₅ a b s h e₁ e₂ e₃ e₄ e₅ =
+    let n₀ = length-digits 8 (b .opened) in
+    let n₁ = length-bytesOf (b .terms) in
+    let n₂ = length-bytesOf (b .cells) in
+    let n₃ = length-digits 8 (b .kept) in
+    let n₄ = length-bytesOf (b .changes) in
+    let x₁ = digits 8 (b .opened) ++ bytesOf (b .terms) in
+    let l₁ = length-append (digits 8 (b .opened)) (bytesOf (b .terms)) in
+    let x₂ = x₁ ++ bytesOf (b .cells) in
+    let l₂ = length-append x₁ (bytesOf (b .cells)) in
+    let x₃ = x₂ ++ digits 8 (b .kept) in
+    let l₃ = length-append x₂ (digits 8 (b .kept)) in
+    let f₂ : r₂ ≡ pasted r a x₁ = (rw e₁ at e₂) ∙ pasted-then r a _ (a + 8) _ (omega arith) (omega arith) in
+    let f₃ : r₃ ≡ pasted r a x₂ = (rw f₂ at e₃) ∙ pasted-then r a _ (a + 104) _ (omega arith) (omega arith) in
+    let f₄ : r₄ ≡ pasted r a x₃ = (rw f₃ at e₄) ∙ pasted-then r a _ (a + 824) _ (omega arith) (omega arith) in
+    (rw f₄ at e₅) ∙ pasted-then r a _ (a + 832) _ (omega arith) (omega arith) ∙ ap (pasted r a) (book-bytes b)
+
+-- each word of a book is a word
+pub record Fit (b : Book) : Type 0 where
+  pub opened : b .opened < 2 ^ 64
+  pub terms : (i : ℕ) → getD (b .terms) i 0 < 2 ^ 64
+  pub cells : (i : ℕ) → getD (b .cells) i 0 < 2 ^ 64
+  pub kept : b .kept < 2 ^ 64
+  pub changes : (i : ℕ) → getD (b .changes) i 0 < 2 ^ 64
+
+-- what is stored is read back
+pub read-back : (r : List ℕ) (a : ℕ) (b : Book) → Sized b → Fit b → a ≤ length r
+    → bookAt (pasted r a (bytesOf (wordsOf b))) a ≡ b
+read-back r a b s f h =
+    let x = bytesOf (wordsOf b) in
+    let q = pasted r a x in
+    let z = drop (a + length x) r in
+    let n₀ = length-digits 8 (b .opened) in
+    let n₁ = length-bytesOf (b .terms) in
+    let n₂ = length-bytesOf (b .cells) in
+    let n₃ = length-digits 8 (b .kept) in
+    let z₃ = bytesOf (b .changes) ++ z in
+    let z₂ = digits 8 (b .kept) ++ z₃ in
+    let z₁ = bytesOf (b .cells) ++ z₂ in
+    let z₀ = bytesOf (b .terms) ++ z₁ in
+    let d₀ : drop a q ≡ digits 8 (b .opened) ++ z₀ =
+    drop-pasted r a x h ∙ ap (λ (l : List ℕ). l ++ z) (sym (book-bytes b)) ∙ simp append-assoc in
+    let d₁ : drop (a + 8) q ≡ z₀ = next-drop q (digits 8 (b .opened)) z₀ a 8 (a + 8) d₀ n₀ refl in
+    let d₂ : drop (a + 104) q ≡ z₁ = next-drop q (bytesOf (b .terms)) z₁ (a + 8) 96 (a + 104) d₁ (omega arith) (omega arith) in
+    let d₃ : drop (a + 824) q ≡ z₂ = next-drop q (bytesOf (b .cells)) z₂ (a + 104) 720 (a + 824) d₂ (omega arith) (omega arith) in
+    let d₄ : drop (a + 832) q ≡ z₃ = next-drop q (digits 8 (b .kept)) z₃ (a + 824) 8 (a + 832) d₃ n₃ (omega arith) in
+    sym
+    (book-eq q a (b .opened) (b .terms) (b .cells) (b .kept) (b .changes)
+    (rw d₀ (sym (le-front (b .opened) z₀ (f .opened))))
+    (rw (d₁, ← s .terms-12) (sym (words-front (b .terms) z₁ (f .terms))))
+    (rw (d₂, ← s .cells-90) (sym (words-front (b .cells) z₂ (f .cells))))
+    (rw d₃ (sym (le-front (b .kept) z₃ (f .kept))))
+    (rw (d₄, ← s .changes-128) (sym (words-front (b .changes) z (f .changes)))))

@@ -1,0 +1,72 @@
+use Rattle.lent.proofs.Stored.{book-eq}
+use borrow.Author.Needs.{needs}
+use Rattle.lent.proofs.load.Statement.{statement}
+use Rattle.lent.proofs.load.Tie as tie
+use Rattle.lent.proofs.load.Reads as reads
+use Rattle.lent.proofs.load.Lts as lts
+use Rattle.words.proofs.load_at.Reads as load-at-reads
+use Rattle.words.proofs.word_at.Reads as word-at-reads
+
+word-at-requires : tie.Need-word-at-requires
+word-at-requires c κs = search needs
+
+add-load-at : tie.Need-add-load-at
+add-load-at c = search needs
+
+slice-aggregate-load-at : tie.Need-slice-aggregate-load-at
+slice-aggregate-load-at c = search needs
+
+load-at-requires : tie.Need-load-at-requires
+load-at-requires c κs = search needs
+
+add-load-at-2 : tie.Need-add-load-at-2
+add-load-at-2 c = search needs
+
+slice-aggregate-load-at-2 : tie.Need-slice-aggregate-load-at-2
+slice-aggregate-load-at-2 c = search needs
+
+load-at-requires-2 : tie.Need-load-at-requires-2
+load-at-requires-2 c κs = search needs
+
+add-word-at : tie.Need-add-word-at
+add-word-at c = search needs
+
+word-at-requires-2 : tie.Need-word-at-requires-2
+word-at-requires-2 c κs = search needs
+
+add-load-at-3 : tie.Need-add-load-at-3
+add-load-at-3 c = search needs
+
+slice-aggregate-load-at-3 : tie.Need-slice-aggregate-load-at-3
+slice-aggregate-load-at-3 c = search needs
+
+load-at-requires-3 : tie.Need-load-at-requires-3
+load-at-requires-3 c κs = search needs
+
+returns : tie.Need-returns
+returns c =
+    let s = c .before .before .before .before .before .before .before .before .before .before .before .before in
+    book-eq (s .args .register .now) (s .args .a) _ _ _ _ _
+    (c .before .before .before .before .before .before .before .before .before .before .word-at .ensures)
+    (c .before .before .before .before .before .before .before .before .load-at .ensures)
+    (c .before .before .before .before .before .load-at2 .ensures)
+    (c .before .before .before .word-at2 .ensures)
+    (c .before .load-at3 .ensures)
+
+pub load-spec : {M : Type 1} → statement M
+load-spec =
+    tie.close
+    (tie.spec
+    word-at-requires
+    add-load-at
+    slice-aggregate-load-at
+    load-at-requires
+    add-load-at-2
+    slice-aggregate-load-at-2
+    load-at-requires-2
+    add-word-at
+    word-at-requires-2
+    add-load-at-3
+    slice-aggregate-load-at-3
+    load-at-requires-3
+    returns)

@@ -1,0 +1,59 @@
+-- THE SHAPE OF EVERY EXPORTED CALL: bytes that are not in form give REGISTER and stay; otherwise the answer is what the paper says
+-- of the register that the bytes hold, and the bytes afterwards are the image of the register after the call.
+use Prim.Native.Nat.{ℕ, _-_, _*_}
+use mathlib.Core.Path.{_≡_}
+use mathlib.Core.Bool.{cond}
+use mathlib.Core.Option.{Option, none, some}
+use mathlib.Core.List.{List, [], _∷_}
+use lib.ListN.{length}
+use lib.Dec.{eqb}
+use Rattle.paper.specs.Procedure.{BOOKS}
+use Rattle.paper.specs.Units.{oneTo}
+use Rattle.paper.specs.Books as paper
+use Rattle.paper.specs.Calls.{Call, fresh, on, ask}
+use Rattle.paper.specs.Answers.{done, Answer, nowhere, answered, says, after}
+use Rattle.words.specs.Words.{bytesOf}
+use Rattle.words.specs.Paste.{pasted}
+use Rattle.book.specs.declared.Book.{Book}
+use Rattle.book.specs.declared.Step.{Step}
+use Rattle.book.specs.Meaning.{bookOf}
+use Rattle.book.specs.Steps.{step}
+use Rattle.lent.specs.Image.{BOOK, LENGTH, wordsOf, image, bookAt, inForm, stateOf}
+
+-- the answer to a call, and the register's bytes after it
+pub record Out : Type 0 where
+  pub answer : Answer
+  pub bytes : List ℕ
+
+abbrev pub out : Answer → List ℕ → Out
+out a bs = record { answer = a; bytes = bs }
+
+-- beside 1 (REGISTER)
+unfoldable pub shut : Call → Answer
+shut fresh = record { refused = 1; suspect = nowhere; value = done }
+shut (on k a) = record { refused = 1; suspect = nowhere; value = done }
+shut (ask q) = answered 1 q (λ k. none)
+
+unfoldable pub callOn : Call → Option paper.Register → List ℕ → Out
+callOn c none bs = out (shut c) bs
+callOn c (some r) bs = out (says c (paper.sights r)) (image (after c r))
+
+-- making a fresh register meets only a wrong length
+unfoldable pub called : Call → List ℕ → Out
+called fresh bs = callOn fresh (cond (eqb (length bs) LENGTH) (some paper.closed) none) bs
+called (on k a) bs = callOn (on k a) (stateOf bs) bs
+called (ask q) bs = callOn (ask q) (stateOf bs) bs
+
+-- what is promised of a call that may change the register: its refusal, and each byte afterwards
+abbrev pub Calls : Call → List ℕ → ℕ → List ℕ → Type 0
+Calls c bs r bs′ = (r ≡ called c bs .answer .refused) × (bs′ ≡ called c bs .bytes)
+
+-- ---- steps of the code
+
+-- 1 or 2; or the book of that number
+unfoldable pub foundOf : List ℕ → ℕ → Step
+foundOf bs k = cond (inForm bs) (cond (oneTo BOOKS k) (step 0 (bookAt bs ((k - 1) * BOOK))) (step 2 (bookOf none))) (step 1 (bookOf none))
+
+-- the bytes with this book under that number
+abbrev pub placedAt : List ℕ → ℕ → Book → List ℕ
+placedAt bs k b = pasted bs ((k - 1) * BOOK) (bytesOf (wordsOf b))

@@ -1,0 +1,80 @@
+-- A turn of each loop.
+-- Assumes nothing.
+use Prim.Native.Nat.{ℕ, zero, suc, _+_, _-_, _*_, _≤_, _<_}
+use native.Mathlib.Omega.{arith}
+use native.Mathlib.Numerals.{add-one}
+use mathlib.Core.Path.{_≡_, refl, sym, ap, _∙_}
+use mathlib.Core.Bool.{Bool, true, false, cond}
+use mathlib.Core.Option.{Option, none, some, Option·map}
+use mathlib.Core.List.{List, [], _∷_, _++_, append-nil}
+use lib.ListN.{length, take, drop, getD, set, replicate}
+use lib.Seq.{drop-cons, set-at, take-suc, append-snoc, length-take-le, take-suc-set, take-length, drop-length}
+use Rattle.paper.specs.Procedure.{BOOKS}
+use Rattle.paper.specs.Books.{sight, sights}
+use Rattle.paper.specs.Screening.{each}
+use Rattle.paper.specs.TurnedAway.{onList, lowest, evaluating}
+use Rattle.book.specs.declared.Book.{Book}
+use Rattle.book.specs.Meaning.{openOf, meant}
+use Rattle.book.proofs.Meaning.{meant-closed, meant-open}
+use Rattle.evaluation.specs.Evaluating.{sightOf}
+use Rattle.evaluation.proofs.Asked.{list-asked}
+use Rattle.lent.specs.Image.{BOOK, bookAt, meantFrom}
+use Rattle.lent.proofs.Image.{book-at}
+
+-- the first k books' numbers on the list
+abbrev pub listedBy : List ℕ → ℕ → List ℕ
+listedBy bs k = each k λ j. cond (onList (sights (meantFrom BOOKS bs) j)) (j ∷ []) []
+
+module _ (bs : List ℕ) (k : ℕ) (h : k < BOOKS) where
+  sight-is : onList (sights (meantFrom BOOKS bs) (suc k)) ≡ onList (Option·map sight (meant (bookAt bs (k * BOOK))))
+  unfolding sights
+  sight-is =
+      let e : suc k - 1 ≡ k = omega arith in
+      let a : getD (meantFrom BOOKS bs) k none ≡ meant (bookAt bs (k * BOOK)) = rw e at (book-at bs (suc k) (omega arith) (omega arith)) in
+      rw a
+
+  pub list-more : (numbers : List ℕ) (n : ℕ) → n < length numbers → take n numbers ≡ listedBy bs k → onList (Option·map sight (meant (bookAt bs (k * BOOK)))) ≡ true
+      → take (n + 1) (set numbers n (k + 1)) ≡ listedBy bs (k + 1)
+  unfolding each
+  list-more numbers n l e o =
+      rw (add-one n, take-suc-set numbers n (k + 1) l, e, add-one k, sight-is, o)
+
+  pub list-same : (l : List ℕ) → l ≡ listedBy bs k → onList (Option·map sight (meant (bookAt bs (k * BOOK)))) ≡ false → l ≡ listedBy bs (k + 1)
+  unfolding each
+  list-same l e o = rw (add-one k, sight-is, o, append-nil) e
+
+pub write-turn : (xs out : List ℕ) (i : ℕ) → i < length xs → length xs ≤ length out
+    → set (take i xs ++ drop i out) i (getD xs i 0) ≡ take (i + 1) xs ++ drop (i + 1) out
+write-turn xs out i h e =
+    let k : i < length out = omega arith in
+    let l : length (take i xs) ≡ i = length-take-le i xs (omega arith) in
+    rw (drop-cons out i 0, set-at (take i xs) _ _ _ i l, add-one i, take-suc xs i 0, append-snoc)
+
+replicate-snoc : (n : ℕ) (l : List ℕ) → replicate n 0 ++ (0 ∷ l) ≡ replicate (suc n) 0 ++ l
+replicate-snoc zero l = refl
+replicate-snoc (suc n) l = ap (λ (k : List ℕ). 0 ∷ k) (replicate-snoc n l)
+
+length-zeros : (n : ℕ) → length {A = ℕ} (replicate n 0) ≡ n
+length-zeros zero = refl
+length-zeros (suc n) = ap suc (length-zeros n)
+
+pub clear-turn : (out : List ℕ) (i : ℕ) → i < length out → set (replicate i 0 ++ drop i out) i 0 ≡ replicate (i + 1) 0 ++ drop (i + 1) out
+clear-turn out i h = rw (drop-cons out i 0, set-at (replicate i 0) _ _ _ i (length-zeros i), add-one i) (replicate-snoc i (drop (suc i) out))
+
+-- ---- at the end of each loop
+
+pub written-all : (xs out l : List ℕ) (i : ℕ) → i ≡ length xs → l ≡ take i xs ++ drop i out → l ≡ xs ++ drop (length xs) out
+written-all xs out l i h e = e ∙ rw (h, take-length xs)
+
+pub cleared-all : (out l : List ℕ) (i : ℕ) → i ≡ length out → l ≡ replicate i 0 ++ drop i out → l ≡ replicate (length out) 0
+cleared-all out l i h e = e ∙ rw (h, drop-length out, append-nil)
+
+-- ---- one book
+
+pub closed-not : (b a : Book) → b ≡ a → b .opened ≡ 0 → false ≡ onList (Option·map sight (meant a))
+unfolding onList lowest evaluating
+closed-not b a e z = rw (← e, meant-closed b z)
+
+pub open-passes : (b a : Book) → b ≡ a → (b .opened ≡ 0 → ⊥) → onList (some (sightOf (b .terms) (b .cells))) ≡ onList (Option·map sight (meant a))
+unfolding sight openOf
+open-passes b a e f = rw (← e, meant-open b f) (sym (list-asked (sight (openOf b)) (b .terms) (b .cells) (record { terms = refl; places = refl })))

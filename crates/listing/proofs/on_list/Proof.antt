@@ -1,0 +1,40 @@
+use Prim.Native.Nat.{_+_, _*_, _≤_}
+use native.Mathlib.Omega.{arith}
+use mathlib.Core.Path.{_≡_, sym, ap, _∙_}
+use mathlib.Core.Bool.{true, false}
+use Rattle.book.specs.declared.Book.{Book}
+use Rattle.book.specs.Meaning.{bookForm}
+use Rattle.lent.specs.Image.{BOOK, bookAt}
+use Rattle.lent.proofs.Image.{form-length, form-at}
+use Rattle.questions.proofs.Asks.{Opened, words-formed}
+use Rattle.listing.proofs.Turns.{closed-not, open-passes}
+use borrow.Author.Needs.{needs}
+use Rattle.listing.proofs.on_list.Statement.{statement}
+use Rattle.listing.proofs.on_list.Tie as tie
+use Rattle.listing.proofs.on_list.Reads as reads
+use Rattle.listing.proofs.on_list.Lts as lts
+use Rattle.evaluation.proofs.passes.Reads as passes-reads
+use Rattle.lent.proofs.load.Reads as load-reads
+
+mul-load : tie.Need-mul-load
+mul-load c = search needs
+
+load-requires : tie.Need-load-requires
+load-requires c κs =
+    omega (arith, form-length _ (c .before .pre .0), c .before .pre .1)
+
+returns : tie.Need-returns
+returns c =
+    closed-not (c .before .before .before .load .result) _ (c .before .before .before .load .ensures) (c .if1 .taken)
+
+passes-requires : tie.Need-passes-requires
+passes-requires c κs =
+    let s = c .before .before .before .before .before .before .before in
+    words-formed (c .before .before .before .before .before .load .result) (record { form = rw (c .before .before .before .before .before .load .ensures) (form-at (s .args .register .now) (s .args .k) (s .pre .0) (s .pre .1)); opened = c .before .before .if1 .left })
+
+returns-2 : tie.Need-returns-2
+returns-2 c =
+    c .passes .ensures ∙ open-passes (c .before .before .before .before .before .before .load .result) _ (c .before .before .before .before .before .before .load .ensures) (c .before .before .before .if1 .left)
+
+pub on-list-spec : {M : Type 1} → statement M
+on-list-spec = tie.close (tie.spec mul-load load-requires returns passes-requires returns-2)

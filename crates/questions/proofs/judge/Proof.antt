@@ -1,0 +1,47 @@
+-- `questions::judge` meets its contract. Assumes nothing.
+use mathlib.Core.Path.{_∙_}
+use Rattle.form.proofs.Laws.{known}
+use Rattle.questions.proofs.Asks.{words-formed, judged-unformed, judged-closed, judged-open}
+use borrow.Author.Needs.{needs}
+use Rattle.questions.proofs.judge.Statement.{statement}
+use Rattle.questions.proofs.judge.Tie as tie
+
+in-form-requires : tie.Need-in-form-requires
+in-form-requires c κs = search needs
+
+not-judged-requires : tie.Need-not-judged-requires
+not-judged-requires c κs = search needs
+
+returns : tie.Need-returns
+returns c =
+    let e = c .not-judged .ensures in
+    (e .0 ∙ judged-closed _ (known (c .before .before .before .before .in-form .ensures) (c .before .before .before .if1 .taken)) (c .before .if2 .taken), e .1)
+
+judged-requires : tie.Need-judged-requires
+judged-requires c κs =
+    words-formed (c .before .before .before .before .before .before .before .before .args .b) (record { form = known (c .before .before .before .before .before .in-form .ensures) (c .before .before .before .before .if1 .taken); opened = c .before .before .if2 .left })
+
+returns-2 : tie.Need-returns-2
+returns-2 c =
+    let e = c .judged .ensures in
+    (e .0 ∙ judged-open (c .before .before .before .before .before .before .before .before .before .args .b) (record { form = known (c .before .before .before .before .before .before .in-form .ensures) (c .before .before .before .before .before .if1 .taken); opened = c .before .before .before .if2 .left }), e .1)
+
+not-judged-requires-2 : tie.Need-not-judged-requires-2
+not-judged-requires-2 c κs = search needs
+
+returns-3 : tie.Need-returns-3
+returns-3 c =
+    let e = c .not-judged2 .ensures in
+    (e .0 ∙ judged-unformed _ (known (c .before .before .in-form .ensures) (c .before .if1 .left)), e .1)
+
+pub judge-spec : {M : Type 1} → statement M
+judge-spec =
+    tie.close
+    (tie.spec
+    in-form-requires
+    not-judged-requires
+    returns
+    judged-requires
+    returns-2
+    not-judged-requires-2
+    returns-3)

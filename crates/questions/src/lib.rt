@@ -1,0 +1,137 @@
+// What is asked of one book by itself, or of two: residual, evaluation, a place on the list, comparison. Any Book at all may be handed in.
+ghost use mathlib.Core.Path.{_≡_};
+ghost use mathlib.Core.Option.{some};
+ghost use Prim.Native.Nat.{_<_};
+ghost use Rattle.paper.specs.Procedure.{PLACES};
+ghost use Rattle.paper.specs.Calls.{residual, evaluate};
+ghost use Rattle.paper.specs.Answers.{residualAt};
+ghost use Rattle.paper.specs.Alone.{askedAlone, comparedAlone};
+ghost use Rattle.image.specs.Ready.{Ready};
+ghost use Rattle.book.specs.Meaning.{seen};
+ghost use Rattle.book.specs.Steps.{lengthsBy, lengthsOf};
+ghost use Rattle.figures.specs.Places.{placeAt};
+ghost use Rattle.figures.specs.Judging.{AllHeld};
+ghost use Rattle.evaluation.specs.Evaluating.{sightOf, judgementOf, doubled};
+ghost use Rattle.evaluation.specs.Comparing.{comparedOf};
+ghost use Rattle.questions.specs.Asked.{onListAlone, refusedOf};
+use book::Book;
+use book::Lengths;
+use evaluation::Compared;
+use evaluation::Evaluated;
+use evaluation::Judgement;
+
+// ---- one book
+
+// 15·r along x, y and h at a place of a full book, counted from 0 in sheet order.
+fn residuals(terms: &[u64; 12], cells: &[u64; 90], place: usize) -> Lengths
+    requires { ⌜ (place < PLACES) × Ready (now terms) (now cells) ⌝ }
+    ensures { λ r. ⌜ r ≡ lengthsBy 0 (residualAt (placeAt place) (some (sightOf (now (terms .entry)) (now (cells .entry))))) ⌝ }
+{
+    let x = figures::residual(terms, cells, place, 0);
+    let y = figures::residual(terms, cells, place, 1);
+    let h = figures::residual(terms, cells, place, 2);
+    Lengths {
+        refusal: 0,
+        x: x,
+        y: y,
+        h: h,
+    }
+}
+
+// The residual of the reading at a place: 15·r for x, y, h.
+pub fn residual(b: Book, series: u64, set: u64, point: u64) -> Lengths
+    ensures { λ r. ⌜ r ≡ lengthsOf (askedAlone (λ k. residual k (record { series = series; set = set; point = point })) (seen b)) ⌝ }
+{
+    let aim = b.aim(series, set, point);
+    let refusal = aim.refusal;
+    let place = aim.place;
+    if refusal != 0 {
+        return book::no_lengths(refusal);
+    }
+    let terms = b.terms;
+    let cells = b.cells;
+    if form::any_empty(&cells) {
+        return book::no_lengths(10);
+    }
+    residuals(&terms, &cells, place)
+}
+
+// The evaluation of a book, in whole numbers.
+pub fn judge(b: Book) -> Judgement
+    ensures { λ r. ⌜ (r ≡ judgementOf (askedAlone evaluate (seen b))) × AllHeld (r .evaluation) ⌝ }
+{
+    let terms = b.terms;
+    let cells = b.cells;
+    if book::in_form(b) {
+        if b.opened == 0 {
+            return evaluation::not_judged(5, 0, 0, 0);
+        }
+        return evaluation::judged(&terms, &cells);
+    }
+    evaluation::not_judged(1, 0, 0, 0)
+}
+
+// The evaluation of a book, in millimetres.
+pub fn evaluate(b: Book) -> Evaluated
+    ensures { λ r. ⌜ r ≡ doubled (judgementOf (askedAlone evaluate (seen b))) ⌝ }
+{
+    let judgement = judge(b);
+    evaluation::in_millimetres(judgement)
+}
+
+// Whether a book is on the pass list.
+pub fn on_list(b: Book) -> bool
+    ensures { λ r. ⌜ r ≡ onListAlone (seen b) ⌝ }
+{
+    let terms = b.terms;
+    let cells = b.cells;
+    if book::in_form(b) {
+        if b.opened == 0 {
+            return false;
+        }
+        return evaluation::passes(&terms, &cells);
+    }
+    false
+}
+
+// ---- two books
+
+// REGISTER, PLACE or CLOSED of a comparison, each looked for in both books; 0 where none applies.
+fn refused(first: Book, second: Book, axis: u64) -> u64
+    ensures { λ r. ⌜ r ≡ refusedOf first second axis ⌝ }
+{
+    if book::in_form(first) {
+        if book::in_form(second) {
+            if axis < 1 {
+                return 2;
+            }
+            if axis > 2 {
+                return 2;
+            }
+            if first.opened == 0 {
+                return 5;
+            }
+            if second.opened == 0 {
+                return 5;
+            }
+            return 0;
+        }
+        return 1;
+    }
+    1
+}
+
+// The comparison of two books, the first against the second: axis 1 is xy, 2 is h.
+pub fn compare(first: Book, second: Book, axis: u64) -> Compared
+    ensures { λ r. ⌜ r ≡ comparedOf (comparedAlone axis (seen first) (seen second)) ⌝ }
+{
+    let refusal = refused(first, second, axis);
+    if refusal != 0 {
+        return evaluation::not_compared(refusal, 0, 0, 0);
+    }
+    let t1 = first.terms;
+    let c1 = first.cells;
+    let t2 = second.terms;
+    let c2 = second.cells;
+    evaluation::compare(&t1, &c1, &t2, &c2, axis)
+}

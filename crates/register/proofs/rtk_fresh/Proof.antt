@@ -1,0 +1,24 @@
+use Rattle.register.proofs.Ways.{fresh-refused, fresh-done}
+use borrow.Author.Needs.{needs}
+use Rattle.register.proofs.rtk_fresh.Statement.{statement}
+use Rattle.register.proofs.rtk_fresh.Tie as tie
+use Rattle.register.proofs.rtk_fresh.Reads as reads
+use Rattle.register.proofs.rtk_fresh.Lts as lts
+use Rattle.listing.proofs.clear.Reads as clear-reads
+
+returns : tie.Need-returns
+returns c =
+    fresh-refused _ (c .if1 .taken)
+
+clear-requires : tie.Need-clear-requires
+clear-requires c κs = search needs
+
+same-length : tie.Need-same-length
+same-length c = search needs
+
+returns-2 : tie.Need-returns-2
+returns-2 c =
+    fresh-done (c .before .before .before .before .before .before .args .register .now) _ (c .before .before .before .before .if1 .left) (c .before .before .clear .ensures)
+
+pub rtk-fresh-spec : {M : Type 1} → statement M
+rtk-fresh-spec = tie.close (tie.spec returns clear-requires same-length returns-2)
