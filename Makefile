@@ -1,18 +1,40 @@
 # README's two commands: `make evaluate FILE=..` and `make test`.
 .POSIX:
-.PHONY: evaluate test rust-tests clean
+.PHONY: evaluate test proofs rust examples library long bench clean
 
 FILE = examples/example.field
 
-# The second implementation answers until the proved program stands.
+# The proved program on one field file. On a new machine it is proved first, which takes some minutes; what the proofs print is in
+# target/evaluate.log.
 evaluate:
-	@cd rust && cargo run -q --offline --release --bin second_evaluate < ../$(FILE)
+	@mkdir -p target
+	@rt check evaluate > target/evaluate.log 2>&1 || { cat target/evaluate.log; exit 1; }
+	@target/bin/evaluate < $(FILE)
 
-test: rust-tests
+# The gate: every crate proved from nothing, every must-fail edit refused; then the Rust tests and the example files on what was
+# proved. It ends with the proofs' own last line.
+test:
+	@.ci/run
+
+proofs:
 	@rt ci
 
-rust-tests:
+rust:
 	@cd rust && cargo test -q --offline --release
+
+examples:
+	@.ci/examples
+
+# The static library for the Rust crate `meliphrast`.
+library:
+	@rt staticlib register
+
+# Ten million calls beside the second implementation; and the two side by side on the clock.
+long:
+	@cd rust && cargo run -q --offline --release --bin long_run
+
+bench:
+	@cd rust && cargo run -q --offline --release --bin bench
 
 clean:
 	rm -rf target rust/target

@@ -28,7 +28,7 @@ pasted-set r a xs i v e h =
     let l : length (take a r ++ xs) ≡ i = length-append (take a r) xs ∙ (ap (λ (n : ℕ). n + length xs) (length-take-le a r (omega arith)) ∙ sym e) in
     let d : drop (a + length xs) r ≡ getD r i 0 ∷ drop (suc i) r = rw (← e) (drop-cons r i 0 h) in
     let f : a + length (xs ++ v ∷ []) ≡ suc i = ap (λ (n : ℕ). a + n) (length-append xs (v ∷ [])) ∙ omega arith in
-    rw (d, f, ← append-assoc) (set-at (take a r ++ xs) (getD r i 0) (drop (suc i) r) v i l ∙ simp append-assoc)
+    rw (d, f, ← append-assoc (take a r) xs (getD r i 0 ∷ drop (suc i) r)) (set-at (take a r ++ xs) (getD r i 0) (drop (suc i) r) v i l ∙ simp append-assoc)
 
 -- ---- a text written into a row
 

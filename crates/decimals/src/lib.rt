@@ -57,7 +57,7 @@ fn nonzero_at(s: &[u8], at: usize) -> Read
 }
 
 // A number: 0, or digits that start with 1 to 9, with a '-' before them or none.
-pub fn number_at(s: &[u8], at: usize) -> Read
+fn number_at(s: &[u8], at: usize) -> Read
     requires { ⌜ at ≤ length (now s) ⌝ }
     ensures { λ r. ⌜ Gives Word (now (s .entry)) at r (number (drop at (now (s .entry)))) ⌝ }
 {

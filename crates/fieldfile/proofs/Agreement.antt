@@ -9,13 +9,17 @@ use native.Mathlib.Omega.{arith}
 use borrow.Author.Tests.{le-leb, lt-leb, leb-true}
 use lib.Dec.{leb}
 use lib.ListN.{length, length-append}
-use lib.IntN.{pos}
-use Rattle.paper.specs.Units.{Terms, Places}
+use lib.IntN.{ℤ, pos}
+use Rattle.paper.specs.Units.{Terms, Spot, Places}
+use Rattle.image.specs.Lengths.{len, word, tripleAt, tripleWords, termsOf, termWords}
+use Rattle.image.specs.Places.{spots, placesOf, cellsOf}
+use Rattle.image.proofs.Lengths.{len-word}
+use Rattle.image.proofs.Places.{Short as Small, AllShort as AllSmall, spots-cells}
 use Rattle.decimals.specs.Ascii.{ascii}
-use Rattle.decimals.specs.Numbers.{numeral, line}
+use Rattle.decimals.specs.Numbers.{numeral, Short, AllShort, line}
 use Rattle.decimals.specs.Reader.{Parsed, got, bad}
 use Rattle.decimals.proofs.Rows.{long-most, long-line}
-use Rattle.fieldfile.specs.Form.{termList, ofSeries, entry, body, lines, text, ShortSpots, Printable, OfForm}
+use Rattle.fieldfile.specs.Form.{termList, ofSeries, entry, body, lines, text, ShortSpot, ShortSpots, Printable, OfForm}
 use Rattle.fieldfile.specs.Reader.{tag, whole, taken, readOf}
 use Rattle.fieldfile.proofs.Lists.{length-series, all-series, lines-most, short-split3}
 use Rattle.fieldfile.proofs.Exact.{whole-back, whole-only, entry-tag, nested, text-nested}
@@ -104,3 +108,44 @@ text-fits t l v =
           long-body 0 ys (omega arith) (h .1),
           long-body 0 zs (omega arith) (h .2),
         ))
+
+-- what is written is read again
+pub read-text : (t : Terms) (l : Places) → Printable t l → readOf (text t l) ≡ some (t, l)
+read-text t l v = read-back (text t l) t l (record { is-text = refl; printable = v; fits = omega (arith, text-fits t l v) })
+
+-- ---- the words of what was read mean it
+
+module _ (t : Terms) (l : Places) (v : Printable t l) where
+  pub terms-back : termsOf (termWords t) ≡ t
+  unfolding termsOf termWords tripleAt tripleWords termList AllShort
+  terms-back =
+      let s = v .terms in
+      rw (
+        back (t .distance) (s .0),
+        back (t .height) (s .1 .0),
+        back (t .screenXY) (s .1 .1 .0),
+        back (t .screenH) (s .1 .1 .1 .0),
+        back (t .sigmaXY) (s .1 .1 .1 .1 .0),
+        back (t .sigmaH) (s .1 .1 .1 .1 .1 .0),
+        back (t .point1 .x) (s .1 .1 .1 .1 .1 .1 .0),
+        back (t .point1 .y) (s .1 .1 .1 .1 .1 .1 .1 .0),
+        back (t .point1 .h) (s .1 .1 .1 .1 .1 .1 .1 .1 .0),
+        back (t .point2 .x) (s .1 .1 .1 .1 .1 .1 .1 .1 .1 .0),
+        back (t .point2 .y) (s .1 .1 .1 .1 .1 .1 .1 .1 .1 .1 .0),
+        back (t .point2 .h) (s .1 .1 .1 .1 .1 .1 .1 .1 .1 .1 .1 .0),
+      )
+    where
+      back : (z : ℤ) → Short z → len (word z) ≡ z
+      back z h = len-word z (omega arith)
+
+  pub places-back : placesOf (cellsOf l) ≡ l
+  unfolding placesOf ShortSpots AllShort AllSmall Small
+  places-back = ap (λ (n : ℕ). spots n (cellsOf l)) (sym (v .thirty)) ∙ spots-cells l (all l (v .places))
+    where
+      one : (w : Spot) → ShortSpot w → Small w
+      one none h = tt
+      one (some r) h = (h .0, h .1 .0, h .1 .1 .0)
+
+      all : (l : Places) → ShortSpots l → AllSmall l
+      all [] h = tt
+      all (w ∷ l) h = (one w (h .0), all l (h .1))

@@ -1,15 +1,16 @@
 -- Worked examples of the field file, as one table: what the reader of files gives for each. By proofs/Agreement.antt a file that gives something is the text of it, and one that gives nothing is no text.
 -- Assumes nothing.
 use Prim.Native.Nat.{ℕ, zero, suc}
-use mathlib.Core.Path.{_≡_, refl, sym, ap, _∙_}
+use mathlib.Core.Path.{_≡_, refl}
 use mathlib.Core.Option.{Option, none, some}
 use mathlib.Core.List.{List, [], _∷_, _++_, map}
-use lib.ListN.{getD, replicate, List·getD-map}
+use lib.ListN.{getD, replicate}
 use lib.IntN.{ℤ, pos, negsuc}
 use Rattle.paper.specs.Units.{Triple, Terms, Places, zeros}
 use Rattle.decimals.specs.Ascii.{ascii}
 use Rattle.decimals.specs.Numbers.{sepOf}
 use Rattle.decimals.specs.Reader.{then, fixed, stops, run, nonzero, number, field, ahead, numbers}
+use Rattle.decimals.proofs.Tables.{each-right}
 use Rattle.fieldfile.specs.Reader.{placed, spot, spots, bodies, upTo10, count, table, termsFrom, ends, whole, readOf}
 
 pub record Case : Type 0 where
@@ -25,19 +26,24 @@ triple a b c = record { x = a; y = b; h = c }
 
 -- ---- the file of document 01
 
--- sets 2 to 5 of a series
+-- sets 2 to 5 of a series, and a series that is read where it is said to be
 later : List ℕ
 later = ascii "2 1 0 0 0\n2 2 100000 0 0\n3 1 0 0 0\n3 2 100000 0 0\n4 1 0 0 0\n4 2 100000 0 0\n5 1 0 0 0\n5 2 100000 0 0\n"
 
-paper-file : List ℕ
+series : List ℕ
 unfolding later
-paper-file =
-    ascii "CONTENTS 4\nTERMS 1\nSERIES1 10\nSERIES2 10\nSERIES3 10\n100000 0 150 250 20 20 0 0 0 100000 0 0\n1 1 126 0 133\n1 2 100000 0 0\n"
+series = ascii "1 1 0 0 0\n1 2 100000 0 0\n" ++ later
+
+-- the file, whose first line of SERIES1 is l
+unfoldable pub paper-file : List ℕ → List ℕ
+unfolding later series
+paper-file l =
+    ascii "CONTENTS 4\nTERMS 1\nSERIES1 10\nSERIES2 10\nSERIES3 10\n100000 0 150 250 20 20 0 0 0 100000 0 0\n"
+    ++ l
+    ++ ascii "1 2 100000 0 0\n"
     ++ later
-    ++ ascii "1 1 0 0 0\n1 2 100000 0 0\n"
-    ++ later
-    ++ ascii "1 1 0 0 0\n1 2 100000 0 0\n"
-    ++ later
+    ++ series
+    ++ series
 
 paper-terms : Terms
 unfolding triple
@@ -88,7 +94,7 @@ small-places = none ∷ none ∷ some (triple (pos 7) (negsuc 7) (pos 9)) ∷ re
 unfoldable pub files : List Case
 unfolding paper-file paper-terms paper-places small-terms small-places
 files =
-    (paper-file ⇒ some (paper-terms, paper-places))
+    (paper-file (ascii "1 1 126 0 133\n") ⇒ some (paper-terms, paper-places))
     ∷ (ascii "CONTENTS 4\nTERMS 1\nSERIES1 1\nSERIES2 0\nSERIES3 0\n1 -2 3 4 5 6 7 0 -9 10 -999999999999 999999999999\n2 1 7 -8 9\n" ⇒ some (small-terms, small-places))
     -- no reading at all
     ∷ (ascii "CONTENTS 4\nTERMS 1\nSERIES1 0\nSERIES2 0\nSERIES3 0\n1 -2 3 4 5 6 7 0 -9 10 -999999999999 999999999999\n" ⇒ some (small-terms, replicate 30 none))
@@ -134,14 +140,12 @@ files =
 -- ---- one test, and the law that turns it into each case
 
 all-right : map (λ (c : Case). readOf (c .file)) files ≡ map (λ (c : Case). c .holds) files
-unfolding files paper-file later paper-terms paper-places sets small-terms small-places triple ascii sepOf then fixed stops run nonzero number field ahead numbers placed spot spots bodies upTo10 count table termsFrom ends whole readOf
+unfolding files paper-file later series paper-terms paper-places sets small-terms small-places triple ascii sepOf then fixed stops run nonzero number field ahead numbers placed spot spots bodies upTo10 count table termsFrom ends whole readOf
 all-right = refl
 
-unfoldable pub case : ℕ → Case
-case k = getD files k ([] ⇒ none)
+pub case : ℕ → Case
+case k = getD files k ([] ⇒ readOf [])
 
 pub each-case : (k : ℕ) → readOf (case k .file) ≡ case k .holds
-unfolding case readOf whole table fixed then ascii
-each-case k =
-    sym (List·getD-map (λ (c : Case). readOf (c .file)) files k ([] ⇒ none))
-    ∙ (ap (λ (l : List (Option (Terms × Places))). getD l k none) all-right ∙ List·getD-map (λ (c : Case). c .holds) files k ([] ⇒ none))
+unfolding case
+each-case = each-right (λ (c : Case). readOf (c .file)) (λ (c : Case). c .holds) files ([] ⇒ readOf []) all-right refl

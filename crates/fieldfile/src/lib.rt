@@ -29,7 +29,7 @@ pub const LONGEST: usize = 4096;
 const IN_SERIES: usize = Procedure::SETS * Procedure::POINTS;
 
 // The three counts of the table of contents, and the place after it.
-pub enum Counts {
+enum Counts {
     Of(u64, u64, u64, usize),
     Bad,
 }

@@ -53,15 +53,6 @@ known e f = sym e ∙ f
 -- ---- a place
 
 module _ (x y h : ℕ) where
-  pub zero-0 : (x ≡ 0 → ⊥) → false ≡ allZero x y h
-  zero-0 e = rw (ne-eqb x 0 e)
-
-  pub zero-1 : x ≡ 0 → (y ≡ 0 → ⊥) → false ≡ allZero x y h
-  zero-1 e f = rw (eq-eqb x 0 e, ne-eqb y 0 f)
-
-  pub zero-2 : x ≡ 0 → y ≡ 0 → eqb h 0 ≡ allZero x y h
-  zero-2 e f = rw (eq-eqb x 0 e, eq-eqb y 0 f)
-
   pub spot-none : (t : Terms) (p : ℕ) → allZero x y h ≡ true → true ≡ nearAt t p (spotOf x y h)
   unfolding spotOf
   spot-none t p e = rw e

@@ -55,11 +55,6 @@ spot-words (some r) l f =
       len-word (r .h) (omega (arith, f .2)),
     )
 
-pub spot-front : (v : Spot) (l : List ℕ) → take 3 (spotWords v ++ l) ≡ spotWords v
-unfolding spotWords tripleWords
-spot-front none l = refl
-spot-front (some r) l = refl
-
 pub spot-rest : (v : Spot) (l : List ℕ) → drop 3 (spotWords v ++ l) ≡ l
 unfolding spotWords tripleWords
 spot-rest none l = refl
@@ -167,18 +162,6 @@ spots-set (suc n) (a ∷ []) p x y h e k = absurd (omega arith)
 spots-set (suc n) (a ∷ b ∷ []) p x y h e k = absurd (omega arith)
 spots-set (suc n) (a ∷ b ∷ c ∷ l) zero x y h e k = refl
 spots-set (suc n) (a ∷ b ∷ c ∷ l) (suc p) x y h e k = rw (pasted-cons a b c l p (x ∷ y ∷ h ∷ []), spots-set n l p x y h (omega arith) (omega arith))
-
--- the three words of a place
-pub cells-three : (l : Places) (p : ℕ) → p < length l → take 3 (drop (p * 3) (cellsOf l)) ≡ spotWords (getD l p none)
-unfolding cellsOf spotWords tripleWords
-cells-three [] p h = absurd (omega arith)
-cells-three (none ∷ l) zero h = refl
-cells-three (some r ∷ l) zero h = refl
-cells-three (v ∷ l) (suc p) h = rw (three-on p) (step v (cells-three l p (omega arith)))
-  where
-    step : (v : Spot) → take 3 (drop (p * 3) (cellsOf l)) ≡ spotWords (getD l p none) → take 3 (drop (suc (suc (suc (p * 3)))) (spotWords v ++ cellsOf l)) ≡ spotWords (getD l p none)
-    step none i = i
-    step (some r) i = i
 
 -- ---- the number of a place
 

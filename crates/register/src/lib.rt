@@ -8,6 +8,8 @@ ghost use Rattle.lent.specs.Calls.{called, Calls};
 ghost use lib.ListN.{length};
 ghost use Rattle.evaluation.specs.Evaluating.{notJudged, doubled};
 ghost use Rattle.evaluation.specs.Comparing.{notCompared};
+ghost use Rattle.paper.specs.Alone.{evaluatedFile};
+ghost use Rattle.fieldfile.specs.Reader.{readOf};
 ghost use Rattle.register.specs.Answers.{checked, plainOf, evaluationOf, plainlyOf, comparisonOf, listAfter};
 use book::Count;
 use book::Lengths;
@@ -283,6 +285,14 @@ pub extern "C" fn rtk_evaluate(register: &[u8], book: u64) -> Evaluation
     }
     let b = f.book;
     plain(questions::evaluate(b))
+}
+
+// Evaluate the book of a field file.
+#[no_mangle]
+pub extern "C" fn rtk_evaluate_file(file: &[u8]) -> Evaluation
+    ensures { λ r. ⌜ r ≡ evaluationOf (evaluatedFile (readOf (now (file .entry)))) ⌝ }
+{
+    plain(fieldbook::evaluate_file(file))
 }
 
 // ---- comparison

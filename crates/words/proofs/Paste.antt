@@ -12,17 +12,9 @@ use Rattle.words.specs.Words.{le, digits, words, bytesOf}
 use Rattle.words.specs.Paste.{pasted}
 use Rattle.words.proofs.Words.{load-turn, le-digits, bytesOf-append, length-bytesOf, length-digits, words-add, length-words}
 
-pub spread : (l : List ℕ) (b : ℕ) (zs : List ℕ) → pasted l b zs ≡ take b l ++ (zs ++ drop (b + length zs) l)
-unfolding pasted
-spread l b zs = refl
-
 pub pasted-nil : (r : List ℕ) (a : ℕ) → pasted r a [] ≡ r
 unfolding pasted
 pasted-nil r a = rw add-zero (take-append-drop a r)
-
-pub length-pasted : (r : List ℕ) (a : ℕ) (xs : List ℕ) → a + length xs ≤ length r → length (pasted r a xs) ≡ length r
-unfolding pasted
-length-pasted r a xs h = rw (length-append, length-append, length-take-le a r (omega arith), length-drop) (omega arith)
 
 pub pasted-then : (r : List ℕ) (a : ℕ) (xs : List ℕ) (p : ℕ) (ys : List ℕ) → p ≡ a + length xs → p + length ys ≤ length r
     → pasted (pasted r a xs) p ys ≡ pasted r a (xs ++ ys)
@@ -58,18 +50,6 @@ pub drop-pasted : (r : List ℕ) (a : ℕ) (xs : List ℕ) → a ≤ length r �
 unfolding pasted
 drop-pasted r a xs h = drop-at (take a r) (xs ++ drop (a + length xs) r) a (length-take-le a r h)
 
--- before the paste, and after it, nothing changes
-pub take-pasted : (r : List ℕ) (a : ℕ) (xs : List ℕ) → a ≤ length r → take a (pasted r a xs) ≡ take a r
-unfolding pasted
-take-pasted r a xs h = take-at (take a r) (xs ++ drop (a + length xs) r) a (length-take-le a r h)
-
-pub after-pasted : (r : List ℕ) (a : ℕ) (xs : List ℕ) (q : ℕ) → a ≤ length r → a + length xs ≤ q → drop q (pasted r a xs) ≡ drop q r
-after-pasted r a xs q h k =
-    let e : a + (length xs + (q - (a + length xs))) ≡ q = omega arith in
-    let f : a + length xs + (q - (a + length xs)) ≡ q = omega arith in
-    rw (← e, ← drop-drop, drop-pasted r a xs h, drop-append-add, drop-drop)
-    (ap (λ (n : ℕ). drop n r) (f ∙ sym e))
-
 pub next-drop : (r x z : List ℕ) (p n q : ℕ) → drop p r ≡ x ++ z → length x ≡ n → q ≡ p + n → drop q r ≡ z
 next-drop r x z p n q e l h = rw (h, ← drop-drop, e) (drop-at x z n l)
 
@@ -99,37 +79,6 @@ words-take zero l = refl
 words-take (suc n) l =
     let e : 8 * suc n ≡ 8 + 8 * n = omega (arith, mul-suc 8 n) in
     rw (e, take-take 8 (8 + 8 * n) l (omega arith), drop-take 8 (8 * n) l, words-take n (drop 8 l))
-
-pub part-front : (x y : List ℕ) (p n : ℕ) → p + n ≤ length x → take n (drop p (x ++ y)) ≡ take n (drop p x)
-part-front x y p n h =
-    rw (drop-append-le p x y (omega arith)) (take-append-le n (drop p x) y (rw length-drop (omega arith)))
-
-pub before-pasted : (r : List ℕ) (a : ℕ) (xs : List ℕ) (p n : ℕ) → a ≤ length r → p + n ≤ a
-    → take n (drop p (pasted r a xs)) ≡ take n (drop p r)
-unfolding pasted
-before-pasted r a xs p n h k =
-    let l : p + n ≤ length (take a r) = rw (length-take-le a r h) k in
-    part-front (take a r) (xs ++ drop (a + length xs) r) p n l
-    ∙ sym (part-front (take a r) (drop a r) p n l)
-    ∙ ap (λ (m : List ℕ). take n (drop p m)) (take-append-drop a r)
-
-pub words-before : (r : List ℕ) (a : ℕ) (xs : List ℕ) (p n : ℕ) → a ≤ length r → p + 8 * n ≤ a
-    → words n (drop p (pasted r a xs)) ≡ words n (drop p r)
-words-before r a xs p n h k =
-    sym (words-take n (drop p (pasted r a xs))) ∙ rw (before-pasted r a xs p (8 * n) h k) (words-take n (drop p r))
-
--- a paste over a paste, and a paste of what stands there
-pub pasted-over : (r : List ℕ) (a : ℕ) (xs ys : List ℕ) → a + length xs ≤ length r → length xs ≡ length ys → pasted (pasted r a xs) a ys ≡ pasted r a ys
-pasted-over r a xs ys h e =
-    let d = after-pasted r a xs (a + length ys) (omega arith) (omega arith) in
-    let t = take-pasted r a xs (omega arith) in
-    spread (pasted r a xs) a ys ∙ rw (t, d) (sym (spread r a ys))
-
-pub pasted-same : (r : List ℕ) (a n : ℕ) → a + n ≤ length r → pasted r a (take n (drop a r)) ≡ r
-unfolding pasted
-pasted-same r a n h =
-    let l : length (take n (drop a r)) ≡ n = length-take-le n (drop a r) (rw length-drop (omega arith)) in
-    rw (l, ← drop-drop n a r, take-append-drop n (drop a r)) (take-append-drop a r)
 
 -- three stores, one after the other
 pub three-pasted : (l : List ℕ) (p x y h : ℕ) → p * 3 + 3 ≤ length l → set (set (set l (p * 3) x) (p * 3 + 1) y) (p * 3 + 2) h ≡ pasted l (p * 3) (x ∷ y ∷ h ∷ [])

@@ -1,0 +1,98 @@
+use borrow.Author.Needs.{needs}
+use Prim.Native.Nat.{_≤_}
+use native.Mathlib.Omega.{arith}
+use mathlib.Core.Path.{_≡_, subst}
+use Prim.Native.Nat.{_+_}
+use Rattle.evaluate.specs.declared.Got.{Got}
+use Rattle.evaluate.specs.declared.Got.the-variants.{Bytes}
+use Rattle.evaluate.specs.Input.{Ends}
+use lib.ListN.{length}
+use Rattle.evaluate.proofs.fill.Statement.{statement}
+use Rattle.evaluate.proofs.fill.Tie as tie
+use Rattle.evaluate.proofs.fill.Reads as reads
+use Rattle.evaluate.proofs.fill.Lts as lts
+use Rattle.evaluate.proofs.next_place.Reads as next-place-reads
+use Rattle.evaluate.proofs.read_once.Reads as read-once-reads
+
+abbrev Inv-loop : tie.InvT-loop
+Inv-loop buffer₀ len₀ turns₀ buffer len turns =
+    (len ≤ 4097) × (length buffer ≡ 4097)
+
+abbrev μ-loop : tie.MeasureT-loop
+μ-loop buffer₀ len₀ turns₀ buffer len turns =
+    turns
+
+-- what came lies within the buffer
+bound : (c : tie.Else1 Inv-loop μ-loop) → c .before .before .before .before .before .before .before .before .next-place .result + c .before .before .n .given .0 .0 ≤ 4097
+bound c =
+    let l = c .before .before .before .before .before .before .before .before .before .before .loop .inv .1 in
+    let e : Ends (Bytes (c .before .before .n .given .0 .0)) (c .before .before .before .before .before .before .before .before .next-place .result) (length (c .before .before .before .before .before .before .before .before .before .before .loop .buffer)) =
+    subst (λ (g : Got). Ends g (c .before .before .before .before .before .before .before .before .next-place .result) (length (c .before .before .before .before .before .before .before .before .before .before .loop .buffer))) (c .before .before .n .given .1) (c .before .before .before .before .before .before .read-once .ensures) in
+    omega (arith, e, l)
+
+loop-holds : tie.Need-loop-holds Inv-loop μ-loop
+loop-holds c = search needs
+
+next-place-requires : tie.Need-next-place-requires Inv-loop μ-loop
+next-place-requires c κs = search needs
+
+read-once-requires : tie.Need-read-once-requires Inv-loop μ-loop
+read-once-requires c κs = search needs
+
+enum-known-n : tie.Need-enum-known-n Inv-loop μ-loop
+enum-known-n c = search needs
+
+enum-told : tie.Need-enum-told Inv-loop μ-loop
+enum-told c = search needs
+
+same-length : tie.Need-same-length Inv-loop μ-loop
+same-length c = search needs
+
+returns : tie.Need-returns Inv-loop μ-loop
+returns c = search needs
+
+same-length-2 : tie.Need-same-length-2 Inv-loop μ-loop
+same-length-2 c = search needs
+
+returns-2 : tie.Need-returns-2 Inv-loop μ-loop
+returns-2 c = search needs
+
+add-len : tie.Need-add-len Inv-loop μ-loop
+add-len c = omega (arith, bound c)
+
+sub-turns : tie.Need-sub-turns Inv-loop μ-loop
+sub-turns c = search needs
+
+loop-less : tie.Need-loop-less Inv-loop μ-loop
+loop-less c = search needs
+
+loop-again : tie.Need-loop-again Inv-loop μ-loop
+loop-again c = (bound c, search needs)
+
+same-length-3 : tie.Need-same-length-3 Inv-loop μ-loop
+same-length-3 c = search needs
+
+returns-3 : tie.Need-returns-3 Inv-loop μ-loop
+returns-3 c = search needs
+
+pub fill-spec : {M : Type 1} → statement M
+fill-spec =
+    tie.close
+    (tie.spec
+    Inv-loop
+    μ-loop
+    loop-holds
+    next-place-requires
+    read-once-requires
+    enum-known-n
+    enum-told
+    same-length
+    returns
+    same-length-2
+    returns-2
+    add-len
+    sub-turns
+    loop-less
+    loop-again
+    same-length-3
+    returns-3)

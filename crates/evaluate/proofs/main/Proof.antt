@@ -1,0 +1,72 @@
+use Prim.Native.Nat.{_≤_}
+use native.Mathlib.Omega.{arith}
+use mathlib.Core.Path.{_≡_, sym, subst}
+use lib.ListN.{length}
+use lib.Seq.{length-take-le}
+use Rattle.evaluate.specs.declared.Got.{Got}
+use Rattle.evaluate.specs.declared.Got.the-variants.{Bytes}
+use Rattle.evaluate.specs.Input.{Ends}
+use borrow.Author.Needs.{needs}
+use Rattle.evaluate.proofs.main.Statement.{statement}
+use Rattle.evaluate.proofs.main.Tie as tie
+use Rattle.evaluate.proofs.main.Reads as reads
+use Rattle.evaluate.proofs.main.Lts as lts
+use Rattle.evaluate.proofs.fill.Reads as fill-reads
+use Rattle.evaluate.proofs.print.Reads as print-reads
+use Rattle.os.proofs.fail.Reads as fail-reads
+
+slice-aggregate-fill : tie.Need-slice-aggregate-fill
+slice-aggregate-fill c = search needs
+
+fill-requires : tie.Need-fill-requires
+fill-requires c κs = search needs
+
+enum-known-n : tie.Need-enum-known-n
+enum-known-n c = search needs
+
+enum-told : tie.Need-enum-told
+enum-told c = search needs
+
+slice-aggregate-fail : tie.Need-slice-aggregate-fail
+slice-aggregate-fail c = search needs
+
+fail-requires : tie.Need-fail-requires
+fail-requires c κs = search needs
+
+returns : tie.Need-returns
+returns c = search needs
+
+array-share-prefix-buffer : tie.Need-array-share-prefix-buffer
+array-share-prefix-buffer c =
+    let e : Ends (Bytes (c .before .n .given .0 .0)) 0 4097 = subst (λ (g : Got). Ends g 0 4097) (c .before .n .given .1) (c .before .before .before .before .fill .ensures) in
+    let l : length (c .before .before .before .before .fill .last .0) ≡ 4097 = search needs in
+    omega (arith, e, l)
+
+slice-aggregate-print : tie.Need-slice-aggregate-print
+slice-aggregate-print c =
+    let e : Ends (Bytes (c .before .before .n .given .0 .0)) 0 4097 = subst (λ (g : Got). Ends g 0 4097) (c .before .before .n .given .1) (c .before .before .before .before .before .fill .ensures) in
+    let l : length (c .before .before .before .before .before .fill .last .0) ≡ 4097 = search needs in
+    let h : c .before .before .n .given .0 .0 ≤ length (c .before .before .before .before .before .fill .last .0) = omega (arith, e, l) in
+    sym (length-take-le _ _ h)
+
+print-requires : tie.Need-print-requires
+print-requires c κs = search needs
+
+returns-2 : tie.Need-returns-2
+returns-2 c = search needs
+
+pub main-spec : {M : Type 1} → statement M
+main-spec =
+    tie.close
+    (tie.spec
+    slice-aggregate-fill
+    fill-requires
+    enum-known-n
+    enum-told
+    slice-aggregate-fail
+    fail-requires
+    returns
+    array-share-prefix-buffer
+    slice-aggregate-print
+    print-requires
+    returns-2)

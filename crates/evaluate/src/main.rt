@@ -1,0 +1,74 @@
+// Evaluates one field file: reads standard input to its end, and writes what document 01 says to standard output.
+ghost use Prim.Native.Nat.{_≤_};
+ghost use mathlib.Core.Path.{_≡_};
+ghost use lib.ListN.{length};
+ghost use Rattle.evaluate.specs.Input.{Ends};
+use libc::STDIN_FILENO;
+use libc::STDOUT_FILENO;
+
+// How many bytes a read brought, or that it failed.
+enum Got {
+    Bytes(usize),
+    Failed,
+}
+
+// One read of standard input into the buffer, from that byte on.
+fn read_once(buffer: &mut [u8], from: usize) -> Got
+    requires { ⌜ from ≤ length (now buffer) ⌝ }
+    ensures { λ r. ⌜ Ends r from (length (now (buffer .entry))) ⌝ }
+{
+    let got = libc::read(STDIN_FILENO, &mut buffer[from..]);
+    if got < 0 {
+        return Got::Failed;
+    }
+    Got::Bytes(io::count(got, &buffer[from..]))
+}
+
+// Where the next bytes go: behind those that came, and over the last one where the buffer is full.
+fn next_place(len: usize) -> usize
+    ensures { λ r. ⌜ r ≤ 4096 ⌝ }
+{
+    if len < 4096 { len } else { 4096 }
+}
+
+// Reads to the end of the input, however long. The buffer has room for one byte more than a file may have, so a longer input stays
+// longer. A proved loop has to end: it counts its turns down from a number that no run uses up.
+fn fill(buffer: &mut [u8]) -> Got
+    requires { ⌜ length (now buffer) ≡ 4097 ⌝ }
+    ensures { λ r. ⌜ Ends r 0 4097 ⌝ }
+{
+    let mut len: usize = 0;
+    let mut turns = u64::MAX;
+    while turns > 0 {
+        let from = next_place(len);
+        let Got::Bytes(n) = read_once(buffer, from) else {
+            return Got::Failed;
+        };
+        if n == 0 {
+            return Got::Bytes(len);
+        }
+        len = from + n;
+        turns -= 1;
+    }
+    Got::Bytes(len)
+}
+
+// Writes the report of a file; a failure to write is told on standard error.
+fn print(file: &[u8]) {
+    let p = fieldbook::report_file(file);
+    let n = p.len;
+    let text = p.bytes;
+    if io::write_all(STDOUT_FILENO, &text[..n]) {
+        return;
+    }
+    os::fail(b"standard output");
+}
+
+fn main() {
+    let mut buffer = [0u8; 4097];
+    let Got::Bytes(n) = fill(&mut buffer) else {
+        os::fail(b"standard input");
+        return;
+    };
+    print(&buffer[..n]);
+}

@@ -1,0 +1,23 @@
+use mathlib.Core.Path.{ap, _∙_}
+use Rattle.evaluation.specs.Evaluating.{doubled}
+use borrow.Author.Needs.{needs}
+use Rattle.fieldbook.proofs.evaluate_file.Statement.{statement}
+use Rattle.fieldbook.proofs.evaluate_file.Tie as tie
+use Rattle.fieldbook.proofs.evaluate_file.Reads as reads
+use Rattle.fieldbook.proofs.evaluate_file.Lts as lts
+use Rattle.evaluation.proofs.in_millimetres.Reads as in-millimetres-reads
+use Rattle.fieldbook.proofs.judge_file.Reads as judge-file-reads
+
+judge-file-requires : tie.Need-judge-file-requires
+judge-file-requires c κs = search needs
+
+in-millimetres-requires : tie.Need-in-millimetres-requires
+in-millimetres-requires c κs =
+    c .judge-file .ensures .1
+
+returns : tie.Need-returns
+returns c =
+    c .in-millimetres .ensures ∙ ap doubled (c .before .judge-file .ensures .0)
+
+pub evaluate-file-spec : {M : Type 1} → statement M
+evaluate-file-spec = tie.close (tie.spec judge-file-requires in-millimetres-requires returns)

@@ -1,0 +1,31 @@
+use mathlib.Core.Path.{_≡_, _∙_}
+use Rattle.fieldbook.proofs.Ways.{file-refused, file-judged}
+use borrow.Author.Needs.{needs}
+use Rattle.fieldbook.proofs.judge_file.Statement.{statement}
+use Rattle.fieldbook.proofs.judge_file.Tie as tie
+use Rattle.fieldbook.proofs.judge_file.Reads as reads
+use Rattle.fieldbook.proofs.judge_file.Lts as lts
+use Rattle.evaluation.proofs.not_judged.Reads as not-judged-reads
+use Rattle.fieldbook.proofs.read_book.Reads as read-book-reads
+use Rattle.questions.proofs.judge.Reads as judge-reads
+
+read-book-requires : tie.Need-read-book-requires
+read-book-requires c κs = search needs
+
+not-judged-requires : tie.Need-not-judged-requires
+not-judged-requires c κs = search needs
+
+returns : tie.Need-returns
+returns c =
+    (c .not-judged .ensures .0 ∙ file-refused _ _ (c .before .before .before .read-book .ensures) (c .before .if1 .taken), c .not-judged .ensures .1)
+
+judge-requires : tie.Need-judge-requires
+judge-requires c κs = search needs
+
+returns-2 : tie.Need-returns-2
+returns-2 c =
+    (c .judge .ensures .0 ∙ file-judged _ _ (c .before .before .before .read-book .ensures) (c .before .if1 .left), c .judge .ensures .1)
+
+pub judge-file-spec : {M : Type 1} → statement M
+judge-file-spec =
+    tie.close (tie.spec read-book-requires not-judged-requires returns judge-requires returns-2)

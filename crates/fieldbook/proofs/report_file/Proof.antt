@@ -1,0 +1,25 @@
+use native.Mathlib.Omega.{arith}
+use mathlib.Core.Path.{_≡_, ap, _∙_}
+use Rattle.report.specs.Given.{held}
+use Rattle.fieldbook.proofs.Numbers.{file-prints, refusal-fits, suspect-fits, printed-is, printed-fits}
+use borrow.Author.Needs.{needs}
+use Rattle.fieldbook.proofs.report_file.Statement.{statement}
+use Rattle.fieldbook.proofs.report_file.Tie as tie
+use Rattle.fieldbook.proofs.report_file.Reads as reads
+use Rattle.fieldbook.proofs.report_file.Lts as lts
+use Rattle.fieldbook.proofs.judge_file.Reads as judge-file-reads
+use Rattle.report.proofs.report.Reads as report-reads
+
+judge-file-requires : tie.Need-judge-file-requires
+judge-file-requires c κs = search needs
+
+report-requires : tie.Need-report-requires
+report-requires c κs =
+    printed-fits _ _ (file-prints _) (c .before .before .before .judge-file .ensures .0) (c .before .before .before .judge-file .ensures .1)
+
+returns : tie.Need-returns
+returns c =
+    c .report .ensures ∙ ap held (printed-is _ _ (file-prints _) (c .before .before .before .before .judge-file .ensures .0))
+
+pub report-file-spec : {M : Type 1} → statement M
+report-file-spec = tie.close (tie.spec judge-file-requires report-requires returns)
