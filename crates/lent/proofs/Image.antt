@@ -201,7 +201,7 @@ length-image b s =
     let e = s .changes-128 in
     rw length-bytesOf (simp length-append (omega arith))
 
-length-book : (o : Option paper.Book) → formedO o ≡ true → length (bookBytes o) ≡ BOOK
+pub length-book : (o : Option paper.Book) → formedO o ≡ true → length (bookBytes o) ≡ BOOK
 length-book o e = length-image (bookOf o) (sized-image o e)
 
 pasted-after : (x l : List ℕ) (a : ℕ) (y : List ℕ) → pasted (x ++ l) (length x + a) y ≡ x ++ pasted l a y

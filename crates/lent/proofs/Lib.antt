@@ -1,3 +1,4 @@
 pub mod Stored
 pub mod Image
 pub mod Calls
+pub mod Frame
