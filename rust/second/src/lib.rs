@@ -1,4 +1,4 @@
-//! The RTK field test register, written a second time from document 01 alone.
+//! The RTK field test register, written a second time, from document 01 and the published layout.
 //!
 //! It shares no code with the proved library, so that each can be run against the other.
 //! Bytes are decoded to signed numbers and optional readings, all work is done on those,
