@@ -9,7 +9,7 @@ FILE = examples/example.field
 evaluate:
 	@mkdir -p target
 	@rt check evaluate > target/evaluate.log 2>&1 || { cat target/evaluate.log; exit 1; }
-	@target/bin/evaluate < $(FILE)
+	@.ci/x86_64 target/bin/evaluate < $(FILE)
 
 # The gate: every crate proved from nothing, every must-fail edit refused; then the Rust tests and the example files on what was
 # proved. It ends with the proofs' own last line.
@@ -20,7 +20,7 @@ proofs:
 	@rt ci
 
 rust:
-	@cd rust && cargo test -q --offline --release
+	@.ci/cargo test -q --offline --release
 
 examples:
 	@.ci/examples
@@ -31,10 +31,11 @@ library:
 
 # Ten million calls beside the second implementation; and the two side by side on the clock.
 long:
-	@cd rust && cargo run -q --offline --release --bin long_run
+	@.ci/cargo run -q --offline --release --bin long_run
 
 bench:
-	@cd rust && cargo run -q --offline --release --bin bench
+	@[ "$$(uname -m)" = x86_64 ] || { echo "the library is x86-64 code: times taken under an emulator say nothing"; exit 1; }
+	@.ci/cargo run -q --offline --release --bin bench
 
 clean:
 	rm -rf target rust/target

@@ -17,7 +17,11 @@ fn main() {
     let file = format!("lib{LIBRARY}.a");
     let archive = match env::var_os(FOLDER_VARIABLE) {
         Some(folder) => PathBuf::from(folder).join(file),
-        None => made_here(&file),
+        None => {
+            let processor = env::var("CARGO_CFG_TARGET_ARCH").expect("cargo says what it is for");
+            assert_eq!(processor, "x86_64", "the proved library is x86-64 code");
+            made_here(&file)
+        }
     };
     let folder = archive.parent().expect("the archive is in a folder");
     println!("cargo:rerun-if-changed={}", archive.display());
