@@ -2,6 +2,7 @@
 ghost use mathlib.Core.Path.{_≡_};
 ghost use mathlib.Core.Bool.{false};
 ghost use Prim.Native.Nat.{_*_, _^_, _≤_, _<_};
+ghost use lib.Dec.{leb};
 ghost use lib.Ieee.Exact.{HasValue};
 ghost use Rattle.whole.specs.Root.{Root};
 ghost use Rattle.whole.specs.Greatest.{greatestOf};
@@ -43,12 +44,12 @@ pub fn greatest(a: u64, n: u64) -> u64
     root(n / a)
 }
 
-// The root of q to the nearest whole number.
-pub fn nearest(q: u64) -> u64
-    ensures { λ r. ⌜ r ≡ nearestOf q ⌝ }
+// Whether the root of q to the nearest whole number is at most m. No root is taken.
+pub fn nearest_at_most(q: u64, m: u64) -> bool
+    requires { ⌜ m < 2 ^ 32 ⌝ }
+    ensures { λ r. ⌜ r ≡ leb (nearestOf q) m ⌝ }
 {
-    let r = root(q);
-    if q - r * r <= r { r } else { r + 1 }
+    q <= m * m + m
 }
 
 // m 1,024ths of a millimetre, as a double.
