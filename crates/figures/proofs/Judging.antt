@@ -4,14 +4,14 @@ use Prim.Native.Nat.{ℕ, _-_, _*_, _≤_}
 use native.Mathlib.Omega.{arith}
 use native.Mathlib.Nat.{mul-le-mul}
 use mathlib.Core.Path.{_≡_}
-use mathlib.Core.Bool.{Bool, true, false}
+use mathlib.Core.Bool.{Bool, true, false, _&&_}
 use lib.Dec.{leb}
 use lib.Ieee.{Float}
 use Rattle.whole.specs.Greatest.{greatestOf}
 use Rattle.whole.specs.Millimetres.{millimetresOf}
 use Rattle.paper.specs.Units.{Terms, Places}
 use Rattle.paper.specs.Figures.{shown, figures, doubles}
-use Rattle.paper.specs.Verdicts.{boundXY, boundH, judgedXY, judgedH, verdict, evaluation}
+use Rattle.paper.specs.Verdicts.{boundXY, boundH, judgedXY, judgedH, verdict, evaluation, bothWithin}
 use Rattle.paper.specs.declared.Sheet.{Sheet}
 use Rattle.paper.specs.declared.Verdict.the-variants.{Within, Beyond}
 use Rattle.image.specs.Lengths.{len}
@@ -55,6 +55,18 @@ pub evaluation-is : (t : Terms) (l : Places) (s : Totals) (f : Shown) (x h : Jud
     → _≡_ {A = Evaluation} (record { sheet = f; xy = x; h = h }) (evaluationIn (evaluation t l))
 unfolding totalsOf shownBy judgedBy evaluation figures judgedXY judgedH boundXY boundH
 evaluation-is t l s f x h es ef ex eh = rw (ef, ex, eh, es)
+
+-- both within, by the sums
+module _ (t : Terms) (l : Places) (s : Totals) (x h : Bool) (es : s ≡ totalsOf t l) (ex : x ≡ withinBy 40 22341 (s .p) (t .sigmaXY)) (eh : h ≡ withinBy 10 6201 (s .qh) (t .sigmaH)) where
+  both-is : x && h ≡ bothWithin (evaluation t l)
+  unfolding totalsOf bothWithin evaluation judgedXY judgedH
+  both-is = rw (ex, eh, es)
+
+  pub by-h : x ≡ true → h ≡ bothWithin (evaluation t l)
+  by-h e = rw e at both-is
+
+  pub xy-beyond : x ≡ false → false ≡ bothWithin (evaluation t l)
+  xy-beyond e = rw e at both-is
 
 -- ---- in doubles
 

@@ -3,7 +3,7 @@ ghost use mathlib.Core.Path.{_≡_};
 ghost use Prim.Native.Nat.{_≤_, _<_};
 ghost use Rattle.paper.specs.Procedure.{POINTS, ROUNDS, PLACES};
 ghost use Rattle.paper.specs.Figures.{Q, both, shown, residual15, doubles};
-ghost use Rattle.paper.specs.Verdicts.{verdict, evaluation};
+ghost use Rattle.paper.specs.Verdicts.{verdict, evaluation, bothWithin};
 ghost use Rattle.image.specs.Lengths.{len, termsOf};
 ghost use Rattle.image.specs.Places.{placesOf, axisOf};
 ghost use Rattle.image.specs.Ready.{Ready, Between};
@@ -232,6 +232,20 @@ pub fn evaluate(terms: &[u64; 12], cells: &[u64; 90]) -> Evaluation
         xy: xy,
         h: h,
     }
+}
+
+// Whether both are within, by the sums alone: no figure and no bound is worked out.
+pub fn both_within(terms: &[u64; 12], cells: &[u64; 90]) -> bool
+    requires { ⌜ Ready (now terms) (now cells) ⌝ }
+    ensures { λ r. ⌜ r ≡ bothWithin (evaluation (termsOf (now (terms .entry))) (placesOf (now (cells .entry)))) ⌝ }
+{
+    let s = sums(terms, cells);
+    let xy = within_by(TIMES_XY, MOST_XY, s.p, terms[SIGMA_XY]);
+    let h = within_by(TIMES_H, MOST_H, s.qh, terms[SIGMA_H]);
+    if xy {
+        return h;
+    }
+    false
 }
 
 // The candidate's sheet, in millimetres.
