@@ -139,10 +139,10 @@ pub fn passes(terms: &[u64; 12], cells: &[u64; 90]) -> bool
         return false;
     }
     let found = screen::first_suspect(terms, cells);
-    if let Found::At(_series, _set, _quantity) = found {
-        return false;
+    match found {
+        Found::Nowhere => figures::both_within(terms, cells),
+        Found::At(_, _, _) => false,
     }
-    figures::both_within(terms, cells)
 }
 
 // ---- comparison

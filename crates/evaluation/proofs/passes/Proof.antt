@@ -18,13 +18,6 @@ first-suspect-requires c κs =
     let p = c .before .before .pre in
     ready _ _ (p .0) (p .1) (known (c .before .any-empty .ensures) (c .if1 .left))
 
-enum-known-found : tie.Need-enum-known-found
-enum-known-found c = search needs
-
-returns-2 : tie.Need-returns-2
-returns-2 c =
-    suspect-off _ _ (known (c .before .before .before .before .before .any-empty .ensures) (c .before .before .before .before .if1 .left)) _ _ _ (sym (c .before .found .given .1) ∙ c .before .before .before .first-suspect .ensures)
-
 enum-told : tie.Need-enum-told
 enum-told c = search needs
 
@@ -33,9 +26,16 @@ both-within-requires c κs =
     let p = c .before .before .before .before .before .pre in
     ready _ _ (p .0) (p .1) (known (c .before .before .before .before .any-empty .ensures) (c .before .before .before .if1 .left))
 
+enum-told-2 : tie.Need-enum-told-2
+enum-told-2 c = search needs
+
+returns-2 : tie.Need-returns-2
+returns-2 c =
+    c .both-within .ensures ∙ clear-on _ _ (known (c .before .before .before .before .before .any-empty .ensures) (c .before .before .before .before .if1 .left)) (sym (c .before .enum-told .given .1) ∙ c .before .before .before .first-suspect .ensures)
+
 returns-3 : tie.Need-returns-3
 returns-3 c =
-    c .both-within .ensures ∙ clear-on _ _ (known (c .before .before .before .before .before .any-empty .ensures) (c .before .before .before .before .if1 .left)) (sym (c .before .enum-told .given .1) ∙ c .before .before .before .first-suspect .ensures)
+    suspect-off _ _ (known (c .before .before .before .before .any-empty .ensures) (c .before .before .before .if1 .left)) _ _ _ (sym (c .enum-told2 .given .1) ∙ c .before .before .first-suspect .ensures)
 
 pub passes-spec : {M : Type 1} → statement M
 passes-spec =
@@ -44,8 +44,8 @@ passes-spec =
     any-empty-requires
     returns
     first-suspect-requires
-    enum-known-found
-    returns-2
     enum-told
     both-within-requires
+    enum-told-2
+    returns-2
     returns-3)
