@@ -10,6 +10,7 @@ ghost use Rattle.image.specs.Ready.{Ready, Between};
 ghost use Rattle.figures.specs.Sums.{keptOf, Adds, totalsOf, Modest, AllModest};
 ghost use Rattle.figures.specs.Places.{placeAt};
 ghost use Rattle.figures.specs.Judging.{judgedIn, evaluationIn, shownFrom, judgedFrom, shownBy, withinBy, judgedBy, Held, SheetHeld, VerdictHeld, AllHeld};
+use image::ZERO;
 use paper::Procedure;
 use paper::Sheet;
 use paper::Verdict;
@@ -23,9 +24,6 @@ const SIGMA_XY: usize = 4;
 const SIGMA_H: usize = 5;
 
 const APPROXIMATE: usize = 6;
-
-// The word of the length 0.
-const ZERO: u64 = 1000000000000;
 
 // 42,000: s² is Q by 15 times the degrees of freedom, and 100 units² are 1 mm².
 const FIGURE: u64 = 100 * Procedure::ROUNDS as u64 * Procedure::DEGREES_H as u64;

@@ -5,6 +5,9 @@ ghost use Rattle.image.specs.Lengths.{len, wordOr, termWordsOr, termsGiv
 ghost use Rattle.image.specs.Places.{placeOf};
 use paper::Procedure;
 
+// The word of the length 0.
+pub const ZERO: u64 = 1000000000000;
+
 // The word of a length; 0 for a number that is no length.
 pub fn word_of(x: i64) -> u64
     ensures { λ r. ⌜ r ≡ wordOr x ⌝ }

@@ -11,10 +11,8 @@ ghost use Rattle.image.specs.Lengths.{len, termsOf};
 ghost use Rattle.image.specs.Places.{placesOf};
 ghost use Rattle.image.specs.Ready.{Ready, Between};
 ghost use Rattle.screen.specs.Named.{wordsFrom, mostPassing, distance, height, foundOf};
+use image::ZERO;
 use paper::Procedure;
-
-// The word of the length 0.
-const ZERO: u64 = 1000000000000;
 
 // Where D*, h*, s_xy and s_h stand among the terms.
 const DISTANCE: usize = 0;
