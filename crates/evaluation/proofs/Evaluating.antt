@@ -1,21 +1,16 @@
 -- The ways out of an evaluation, and of the pass list's test.
 -- Assumes nothing.
-use Prim.Native.Nat.{ℕ, zero, suc}
-use native.Mathlib.Omega.{arith}
-use mathlib.Core.Path.{_≡_, refl, ap, _∙_}
+use Prim.Native.Nat.{ℕ}
+use mathlib.Core.Path.{_≡_, refl}
 use mathlib.Core.Bool.{true, false}
 use mathlib.Core.Option.{Option, none, some}
 use mathlib.Core.List.{List}
-use lib.Dec.{eqb}
-use borrow.Author.Tests.{eq-eqb, ne-eqb}
 use Rattle.paper.specs.Units.{Terms, Places, isEmpty}
 use Rattle.paper.specs.Screening.{Suspect, firstSuspect}
 use Rattle.paper.specs.Figures.{doubles}
 use Rattle.paper.specs.Verdicts.{evaluation, bothWithin, verdict}
-use Rattle.paper.specs.Books.{Sight}
-use Rattle.paper.specs.Calls.{evaluate}
 use Rattle.paper.specs.TurnedAway.{some?, short, suspectOf, lowest, evaluating, questioned, evaluated, onList}
-use Rattle.paper.specs.Answers.{suspectIn, given, beside, answered, says}
+use Rattle.paper.specs.Answers.{suspectIn, given, beside, says}
 use Rattle.paper.specs.declared.Sheet.{Sheet}
 use Rattle.paper.specs.declared.Verdict.{Verdict}
 use Rattle.image.specs.Lengths.{termsOf}
@@ -26,7 +21,7 @@ use Rattle.screen.specs.Named.{foundOf}
 use Rattle.screen.specs.declared.Found.the-variants.{Nowhere, At}
 use Rattle.evaluation.specs.declared.Judgement.{Judgement}
 use Rattle.evaluation.specs.declared.Evaluated.{Evaluated}
-use Rattle.evaluation.specs.Evaluating.{sightOf, answerTo, judgementOf, doubled, passOf, notJudged, afterScreen, screenedOf}
+use Rattle.evaluation.specs.Evaluating.{sightOf, answerTo, judgementOf, doubled, notJudged, afterScreen, screenedOf}
 use Rattle.evaluation.proofs.Suspects.{none-is, some-is}
 
 -- ---- a full book
@@ -65,24 +60,16 @@ doubled-is j f x h ef ex eh = rw (ef, ex, eh)
 
 -- ---- the pass list
 
-by-number : (s : Option Sight) (n : ℕ) → lowest (evaluating s) ≡ n → passOf (judgementOf (answered n (evaluate 1) (λ k. s))) ≡ onList s
-unfolding judgementOf onList given bothWithin
-by-number s zero e = rw e
-by-number s (suc n) e = let z : eqb (suc n) 0 ≡ false = ne-eqb (suc n) 0 (λ h. omega arith) in rw (e, z)
+module _ (t l : List ℕ) where
+  pub short-off : some? isEmpty (placesOf l) ≡ true → false ≡ onList (some (sightOf t l))
+  unfolding onList lowest evaluating short
+  short-off e = rw e
 
-pass-is : (s : Sight) → passOf (judgementOf (answerTo s)) ≡ onList (some s)
-unfolding answerTo says questioned lowest
-pass-is s = by-number (some s) (lowest (evaluating (some s))) refl
+  pub suspect-off : some? isEmpty (placesOf l) ≡ false → (i j k : ℕ) → At i j k ≡ foundOf (firstSuspect (termsOf t) (placesOf l)) → false ≡ onList (some (sightOf t l))
+  unfolding onList lowest evaluating short suspectOf
+  suspect-off e i j k h = rw (e, some-is (firstSuspect (termsOf t) (placesOf l)) i j k h)
 
-module _ (s : Sight) (j : Judgement) (e : j ≡ judgementOf (answerTo s)) where
-  listed : passOf j ≡ onList (some s)
-  listed = ap passOf e ∙ pass-is s
-
-  pub refused-off : (j .refusal ≡ 0 → ⊥) → false ≡ onList (some s)
-  refused-off h = rw (ne-eqb (j .refusal) 0 h) at listed
-
-  pub beyond-off : j .refusal ≡ 0 → j .evaluation .xy .within ≡ false → false ≡ onList (some s)
-  beyond-off h g = rw (eq-eqb (j .refusal) 0 h, g) at listed
-
-  pub within-on : j .refusal ≡ 0 → j .evaluation .xy .within ≡ true → j .evaluation .h .within ≡ onList (some s)
-  within-on h g = rw (eq-eqb (j .refusal) 0 h, g) at listed
+  pub clear-on : some? isEmpty (placesOf l) ≡ false → Nowhere ≡ foundOf (firstSuspect (termsOf t) (placesOf l))
+      → bothWithin (evaluation (termsOf t) (placesOf l)) ≡ onList (some (sightOf t l))
+  unfolding onList lowest evaluating short suspectOf evaluated
+  clear-on e h = rw (e, none-is (firstSuspect (termsOf t) (placesOf l)) h)

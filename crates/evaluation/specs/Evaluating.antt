@@ -1,10 +1,9 @@
 -- The evaluation of an open book in form: the paper's answer as the code's records.
 use Prim.Native.Nat.{ℕ}
 use mathlib.Core.Path.{_≡_}
-use mathlib.Core.Bool.{Bool, true, _&&_}
+use mathlib.Core.Bool.{true}
 use mathlib.Core.Option.{Option, none, some}
 use mathlib.Core.List.{List}
-use lib.Dec.{eqb}
 use Rattle.paper.specs.Units.{Terms, Places, inRange, allNear}
 use Rattle.paper.specs.Screening.{Suspect, firstSuspect}
 use Rattle.paper.specs.Figures.{doubles}
@@ -60,10 +59,6 @@ doubled j =
       xy = verdict (judgedFrom (j .evaluation .xy));
       h = verdict (judgedFrom (j .evaluation .h));
     }
-
--- on the pass list, by the code's record: it evaluates, and both are within
-abbrev pub passOf : Judgement → Bool
-passOf j = eqb (j .refusal) 0 && j .evaluation .xy .within && j .evaluation .h .within
 
 -- ---- the ways out
 

@@ -135,17 +135,14 @@ pub fn passes(terms: &[u64; 12], cells: &[u64; 90]) -> bool
     requires { ⌜ Formed (now terms) (now cells) ⌝ }
     ensures { λ r. ⌜ r ≡ onList (some (sightOf (now (terms .entry)) (now (cells .entry)))) ⌝ }
 {
-    let j = judged(terms, cells);
-    if j.refusal != 0 {
+    if form::any_empty(cells) {
         return false;
     }
-    let e = j.evaluation;
-    let xy = e.xy;
-    let h = e.h;
-    if xy.within {
-        return h.within;
+    let found = screen::first_suspect(terms, cells);
+    match found {
+        Found::Nowhere => figures::both_within(terms, cells),
+        Found::At(_, _, _) => false,
     }
-    false
 }
 
 // ---- comparison

@@ -4,14 +4,14 @@ use Prim.Native.Nat.{ℕ, _-_, _*_, _≤_}
 use native.Mathlib.Omega.{arith}
 use native.Mathlib.Nat.{mul-le-mul}
 use mathlib.Core.Path.{_≡_}
-use mathlib.Core.Bool.{true, false}
+use mathlib.Core.Bool.{Bool, true, false, _&&_}
 use lib.Dec.{leb}
 use lib.Ieee.{Float}
 use Rattle.whole.specs.Greatest.{greatestOf}
 use Rattle.whole.specs.Millimetres.{millimetresOf}
 use Rattle.paper.specs.Units.{Terms, Places}
 use Rattle.paper.specs.Figures.{shown, figures, doubles}
-use Rattle.paper.specs.Verdicts.{boundXY, boundH, judgedXY, judgedH, verdict, evaluation}
+use Rattle.paper.specs.Verdicts.{boundXY, boundH, judgedXY, judgedH, verdict, evaluation, bothWithin}
 use Rattle.paper.specs.declared.Sheet.{Sheet}
 use Rattle.paper.specs.declared.Verdict.the-variants.{Within, Beyond}
 use Rattle.image.specs.Lengths.{len}
@@ -21,28 +21,52 @@ use Rattle.figures.specs.declared.Shown.{Shown}
 use Rattle.figures.specs.declared.Judged.{Judged}
 use Rattle.figures.specs.declared.Evaluation.{Evaluation}
 use Rattle.figures.specs.Sums.{totalsOf}
-use Rattle.figures.specs.Judging.{judgedIn, evaluationIn, shownFrom, judgedFrom, shownBy, judgedBy}
+use Rattle.figures.specs.Judging.{judgedIn, evaluationIn, shownFrom, judgedFrom, shownBy, withinBy, judgedBy}
 
 pub shown-are : (s : Totals) (x y xy h : ℕ) → x ≡ shown (s .qx) → y ≡ shown (s .qy) → xy ≡ shown (s .p) → h ≡ shown (s .qh)
     → _≡_ {A = Shown} (record { sx = x; sy = y; sxy = xy; sh = h }) (shownBy s)
 unfolding shownBy
 shown-are s x y xy h ex ey exy eh = rw (ex, ey, exy, eh)
 
+module _ (s : Totals) (f : Shown) (e : f ≡ shownBy s) where
+  pub shown-xy : f .sxy ≡ shown (s .p)
+  unfolding shownBy
+  shown-xy = rw e
+
+  pub shown-h : f .sh ≡ shown (s .qh)
+  unfolding shownBy
+  shown-h = rw e
+
 -- the square of a stated sigma
 pub sigma² : {w : ℕ} → w ≤ 1000000010000 → (w - 1000000000000) * (w - 1000000000000) ≤ 100000000
 sigma² {w} h = let k : w - 1000000000000 ≤ 10000 = omega arith in mul-le-mul k k
 
-pub judged-is : (times most divisor chi sum w m b : ℕ) → 1000000000000 ≤ w → m ≡ shown sum
+pub within-by-is : (times most sum w : ℕ) → 1000000000000 ≤ w → leb (times * sum) (most * ((w - 1000000000000) * (w - 1000000000000))) ≡ withinBy times most sum (len w)
+within-by-is times most sum w low = rw (len-pos w low)
+
+pub judged-is : (times most divisor chi sum w m b : ℕ) (t : Bool) → 1000000000000 ≤ w → t ≡ withinBy times most sum (len w) → m ≡ shown sum
     → b ≡ greatestOf divisor ((w - 1000000000000) * (w - 1000000000000) * chi * 1048576)
-    → _≡_ {A = Judged} (record { within = leb (times * sum) (most * ((w - 1000000000000) * (w - 1000000000000))); m = m; b = b }) (judgedIn (judgedBy times most divisor chi sum (len w)))
+    → _≡_ {A = Judged} (record { within = t; m = m; b = b }) (judgedIn (judgedBy times most divisor chi sum (len w)))
 unfolding judgedBy
-judged-is times most divisor chi sum w m b low em eb = rw (len-pos w low, em, eb)
+judged-is times most divisor chi sum w m b t low et em eb = rw (et, em, eb, len-pos w low)
 
 pub evaluation-is : (t : Terms) (l : Places) (s : Totals) (f : Shown) (x h : Judged) → s ≡ totalsOf t l → f ≡ shownBy s
     → x ≡ judgedIn (judgedBy 40 22341 560000 7447 (s .p) (t .sigmaXY)) → h ≡ judgedIn (judgedBy 10 6201 280000 4134 (s .qh) (t .sigmaH))
     → _≡_ {A = Evaluation} (record { sheet = f; xy = x; h = h }) (evaluationIn (evaluation t l))
 unfolding totalsOf shownBy judgedBy evaluation figures judgedXY judgedH boundXY boundH
 evaluation-is t l s f x h es ef ex eh = rw (ef, ex, eh, es)
+
+-- both within, by the sums
+module _ (t : Terms) (l : Places) (s : Totals) (x h : Bool) (es : s ≡ totalsOf t l) (ex : x ≡ withinBy 40 22341 (s .p) (t .sigmaXY)) (eh : h ≡ withinBy 10 6201 (s .qh) (t .sigmaH)) where
+  both-is : x && h ≡ bothWithin (evaluation t l)
+  unfolding totalsOf bothWithin evaluation judgedXY judgedH
+  both-is = rw (ex, eh, es)
+
+  pub by-h : x ≡ true → h ≡ bothWithin (evaluation t l)
+  by-h e = rw e at both-is
+
+  pub xy-beyond : x ≡ false → false ≡ bothWithin (evaluation t l)
+  xy-beyond e = rw e at both-is
 
 -- ---- in doubles
 

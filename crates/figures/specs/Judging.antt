@@ -1,5 +1,6 @@
 -- What an evaluation gives, in the code's records: they mirror the paper's of the same names.
 use Prim.Native.Nat.{ℕ, _*_, _^_, _<_}
+use mathlib.Core.Bool.{Bool}
 use lib.Dec.{leb}
 use lib.IntN.{ℤ}
 use Rattle.whole.specs.Greatest.{greatestOf}
@@ -35,10 +36,14 @@ judgedFrom j = record { within = j .within; m = j .m; b = j .b }
 unfoldable pub shownBy : Totals → shownCode.Shown
 shownBy s = record { sx = shown (s .qx); sy = shown (s .qy); sxy = shown (s .p); sh = shown (s .qh) }
 
--- the rule of a verdict: within when times · sum <= most · sigma²; b is the greatest with b² · divisor <= sigma² · chi · 1,048,576
+-- within when times · sum <= most · sigma²
+abbrev pub withinBy : ℕ → ℕ → ℕ → ℤ → Bool
+withinBy times most sum sigma = leb (times * sum) (most * square sigma)
+
+-- the rule of a verdict: b is the greatest with b² · divisor <= sigma² · chi · 1,048,576
 unfoldable pub judgedBy : ℕ → ℕ → ℕ → ℕ → ℕ → ℤ → Judged
 judgedBy times most divisor chi sum sigma =
-    record { within = leb (times * sum) (most * square sigma); m = shown sum; b = greatestOf divisor (square sigma * chi * 1048576) }
+    record { within = withinBy times most sum sigma; m = shown sum; b = greatestOf divisor (square sigma * chi * 1048576) }
 
 -- ---- each m and b is one that a double holds
 

@@ -3,13 +3,14 @@ ghost use mathlib.Core.Path.{_≡_};
 ghost use Prim.Native.Nat.{_≤_, _<_};
 ghost use Rattle.paper.specs.Procedure.{POINTS, ROUNDS, PLACES};
 ghost use Rattle.paper.specs.Figures.{Q, both, shown, residual15, doubles};
-ghost use Rattle.paper.specs.Verdicts.{verdict, evaluation};
+ghost use Rattle.paper.specs.Verdicts.{verdict, evaluation, bothWithin};
 ghost use Rattle.image.specs.Lengths.{len, termsOf};
 ghost use Rattle.image.specs.Places.{placesOf, axisOf};
 ghost use Rattle.image.specs.Ready.{Ready, Between};
 ghost use Rattle.figures.specs.Sums.{keptOf, Adds, totalsOf, Modest, AllModest};
 ghost use Rattle.figures.specs.Places.{placeAt};
-ghost use Rattle.figures.specs.Judging.{judgedIn, evaluationIn, shownFrom, judgedFrom, shownBy, judgedBy, Held, SheetHeld, VerdictHeld, AllHeld};
+ghost use Rattle.figures.specs.Judging.{judgedIn, evaluationIn, shownFrom, judgedFrom, shownBy, withinBy, judgedBy, Held, SheetHeld, VerdictHeld, AllHeld};
+use image::ZERO;
 use paper::Procedure;
 use paper::Sheet;
 use paper::Verdict;
@@ -24,9 +25,6 @@ const SIGMA_H: usize = 5;
 
 const APPROXIMATE: usize = 6;
 
-// The word of the length 0.
-const ZERO: u64 = 1000000000000;
-
 // 42,000: s² is Q by 15 times the degrees of freedom, and 100 units² are 1 mm².
 const FIGURE: u64 = 100 * Procedure::ROUNDS as u64 * Procedure::DEGREES_H as u64;
 
@@ -34,6 +32,15 @@ const FIGURE: u64 = 100 * Procedure::ROUNDS as u64 * Procedure::DEGREES_H as u64
 const BOUND_XY: u64 = 10000 * Procedure::DEGREES_XY as u64;
 
 const BOUND_H: u64 = 10000 * Procedure::DEGREES_H as u64;
+
+// 40·P <= 22,341·sigma_xy² and 10·Qh <= 6,201·sigma_h².
+const TIMES_XY: u64 = 40;
+
+const MOST_XY: u64 = 22341;
+
+const TIMES_H: u64 = 10;
+
+const MOST_H: u64 = 6201;
 
 // Reading i of a point along an axis (0 x, 1 y, 2 h), kept as its offset + 100,000.
 fn kept(terms: &[u64; 12], cells: &[u64; 90], point: usize, axis: usize, i: usize) -> u64
@@ -160,19 +167,27 @@ pub struct Judged {
     pub b: u64,
 }
 
-// Within when times · sum <= most · sigma²; b is the greatest with b² · divisor <= sigma² · chi · 1,048,576. Sigma is a word.
-fn judged_by(times: u64, most: u64, divisor: u64, chi: u64, sum: u64, sigma: u64) -> Judged
-    requires { ⌜ (times ≤ 40) × (most ≤ 22341) × (0 < divisor) × (chi ≤ 7447) × Modest sum × Between 1000000000001 1000000010000 sigma ⌝ }
-    ensures { λ r. ⌜ (r ≡ judgedIn (judgedBy times most divisor chi sum (len sigma))) × VerdictHeld r ⌝ }
+// Whether times · sum <= most · sigma². Sigma is a word.
+fn within_by(times: u64, most: u64, sum: u64, sigma: u64) -> bool
+    requires { ⌜ (times ≤ 40) × (most ≤ 22341) × Modest sum × Between 1000000000001 1000000010000 sigma ⌝ }
+    ensures { λ r. ⌜ r ≡ withinBy times most sum (len sigma) ⌝ }
 {
     let s = sigma - ZERO;
-    let square = s * s;
     let tested = times * sum;
-    let limit = most * square;
-    let m = figure(sum);
-    let b = whole::greatest(divisor, square * chi * 1048576);
+    let limit = most * (s * s);
+    tested <= limit
+}
+
+// The verdict on a sum of which m is shown: within by that test; b is the greatest with b² · divisor <= sigma² · chi · 1,048,576.
+fn judged_by(times: u64, most: u64, divisor: u64, chi: u64, sum: u64, m: u64, sigma: u64) -> Judged
+    requires { ⌜ (times ≤ 40) × (most ≤ 22341) × (0 < divisor) × (chi ≤ 7447) × Modest sum × (m ≡ shown sum) × Held m × Between 1000000000001 1000000010000 sigma ⌝ }
+    ensures { λ r. ⌜ (r ≡ judgedIn (judgedBy times most divisor chi sum (len sigma))) × VerdictHeld r ⌝ }
+{
+    let within = within_by(times, most, sum, sigma);
+    let s = sigma - ZERO;
+    let b = whole::greatest(divisor, s * s * chi * 1048576);
     Judged {
-        within: tested <= limit,
+        within: within,
         m: m,
         b: b,
     }
@@ -192,13 +207,43 @@ pub fn evaluate(terms: &[u64; 12], cells: &[u64; 90]) -> Evaluation
 {
     let s = sums(terms, cells);
     let sheet = shown_of(s);
-    let xy = judged_by(40, 22341, BOUND_XY, 7447, s.p, terms[SIGMA_XY]);
-    let h = judged_by(10, 6201, BOUND_H, 4134, s.qh, terms[SIGMA_H]);
+    let xy = judged_by(
+        TIMES_XY,
+        MOST_XY,
+        BOUND_XY,
+        7447,
+        s.p,
+        sheet.sxy,
+        terms[SIGMA_XY],
+    );
+    let h = judged_by(
+        TIMES_H,
+        MOST_H,
+        BOUND_H,
+        4134,
+        s.qh,
+        sheet.sh,
+        terms[SIGMA_H],
+    );
     Evaluation {
         sheet: sheet,
         xy: xy,
         h: h,
     }
+}
+
+// Whether both are within, by the sums alone: no figure and no bound is worked out.
+pub fn both_within(terms: &[u64; 12], cells: &[u64; 90]) -> bool
+    requires { ⌜ Ready (now terms) (now cells) ⌝ }
+    ensures { λ r. ⌜ r ≡ bothWithin (evaluation (termsOf (now (terms .entry))) (placesOf (now (cells .entry)))) ⌝ }
+{
+    let s = sums(terms, cells);
+    let xy = within_by(TIMES_XY, MOST_XY, s.p, terms[SIGMA_XY]);
+    let h = within_by(TIMES_H, MOST_H, s.qh, terms[SIGMA_H]);
+    if xy {
+        return h;
+    }
+    false
 }
 
 // The candidate's sheet, in millimetres.

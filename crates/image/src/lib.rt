@@ -5,6 +5,12 @@ ghost use Rattle.image.specs.Lengths.{len, wordOr, termWordsOr, termsGiv
 ghost use Rattle.image.specs.Places.{placeOf};
 use paper::Procedure;
 
+// The word of the length 0.
+pub const ZERO: u64 = 1000000000000;
+
+// The same, with a sign.
+const SHIFT: i64 = ZERO as i64;
+
 // The word of a length; 0 for a number that is no length.
 pub fn word_of(x: i64) -> u64
     ensures { λ r. ⌜ r ≡ wordOr x ⌝ }
@@ -15,7 +21,7 @@ pub fn word_of(x: i64) -> u64
     if 999999999999 < x {
         return 0;
     }
-    (x + 1000000000000) as u64
+    (x + SHIFT) as u64
 }
 
 // The words of twelve terms.
@@ -56,7 +62,7 @@ pub fn length_of(w: u64) -> i64
     requires { ⌜ w < 2000000000000 ⌝ }
     ensures { λ r. ⌜ r ≡ len w ⌝ }
 {
-    (w as i64) - 1000000000000
+    (w as i64) - SHIFT
 }
 
 // The number of a place in sheet order, from 0; the number of places where it is none.

@@ -10,7 +10,7 @@ use borrow.Author.Tests.{eqb-true, eqb-false}
 use Rattle.paper.specs.Units.{zeros, oneTo, Place, isEmpty}
 use Rattle.paper.specs.Books as paper
 use Rattle.paper.specs.Calls.{residual, evaluate}
-use Rattle.paper.specs.TurnedAway.{some?, short, lowest, evaluating, onList, questioned}
+use Rattle.paper.specs.TurnedAway.{some?, short, lowest, evaluating, questioned}
 use Rattle.paper.specs.Answers.{residualAt, given, beside, says}
 use Rattle.paper.specs.Alone.{askedAlone, comparedAlone}
 use Rattle.paper.proofs.Form.{parts}
@@ -27,8 +27,8 @@ use Rattle.figures.specs.Places.{placeAt}
 use Rattle.figures.proofs.Places.{place-back}
 use Rattle.evaluation.specs.Evaluating.{Formed, sightOf, answerTo, judgementOf, notJudged}
 use Rattle.evaluation.specs.Comparing.{AnAxis, comparisonTo, comparedOf, notCompared}
-use Rattle.evaluation.proofs.Asked.{Seen, evaluate-asked, list-asked, compare-asked}
-use Rattle.questions.specs.Asked.{onListAlone, refusedOf}
+use Rattle.evaluation.proofs.Asked.{Seen, evaluate-asked, compare-asked}
+use Rattle.questions.specs.Asked.{refusedOf}
 
 -- ---- a book that is in form and open
 
@@ -49,10 +49,6 @@ module _ (b : Book) (o : Opened b) where
   unfolding askedAlone
   judged-open = rw (seen-in b (o .form), meant-open b (o .opened)) (ap judgementOf (sym (evaluate-asked (λ k. some (paper.sight (openOf b))) 1 _ _ _ refl refl words-seen)))
 
-  pub listed-open : onList (some (sightOf (b .terms) (b .cells))) ≡ onListAlone (seen b)
-  unfolding onListAlone
-  listed-open = rw (seen-in b (o .form), meant-open b (o .opened)) (sym (list-asked _ _ _ words-seen))
-
 -- ---- a book that is not in form, or closed
 
 module _ (b : Book) where
@@ -63,14 +59,6 @@ module _ (b : Book) where
   pub judged-closed : bookForm b ≡ true → b .opened ≡ 0 → notJudged 5 0 0 0 ≡ judgementOf (askedAlone evaluate (seen b))
   unfolding notJudged judgementOf askedAlone says lowest questioned evaluating beside
   judged-closed e z = rw (seen-in b e, meant-closed b z)
-
-  pub unlisted-unformed : bookForm b ≡ false → false ≡ onListAlone (seen b)
-  unfolding onListAlone
-  unlisted-unformed e = rw (seen-out b e)
-
-  pub unlisted-closed : bookForm b ≡ true → b .opened ≡ 0 → false ≡ onListAlone (seen b)
-  unfolding onListAlone onList lowest evaluating
-  unlisted-closed e z = rw (seen-in b e, meant-closed b z)
 
 -- ---- residuals
 

@@ -1,4 +1,4 @@
-// What is asked of one book by itself, or of two: residual, evaluation, a place on the list, comparison. Any Book at all may be handed in.
+// What is asked of one book by itself, or of two: residual, evaluation, comparison. Any Book at all may be handed in.
 ghost use mathlib.Core.Path.{_≡_};
 ghost use mathlib.Core.Option.{some};
 ghost use Prim.Native.Nat.{_<_};
@@ -13,7 +13,7 @@ ghost use Rattle.figures.specs.Places.{placeAt};
 ghost use Rattle.figures.specs.Judging.{AllHeld};
 ghost use Rattle.evaluation.specs.Evaluating.{sightOf, judgementOf, doubled};
 ghost use Rattle.evaluation.specs.Comparing.{comparedOf};
-ghost use Rattle.questions.specs.Asked.{onListAlone, refusedOf};
+ghost use Rattle.questions.specs.Asked.{refusedOf};
 use book::Book;
 use book::Lengths;
 use evaluation::Compared;
@@ -77,21 +77,6 @@ pub fn evaluate(b: Book) -> Evaluated
 {
     let judgement = judge(b);
     evaluation::in_millimetres(judgement)
-}
-
-// Whether a book is on the pass list.
-pub fn on_list(b: Book) -> bool
-    ensures { λ r. ⌜ r ≡ onListAlone (seen b) ⌝ }
-{
-    let terms = b.terms;
-    let cells = b.cells;
-    if book::in_form(b) {
-        if b.opened == 0 {
-            return false;
-        }
-        return evaluation::passes(&terms, &cells);
-    }
-    false
 }
 
 // ---- two books

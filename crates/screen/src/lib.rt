@@ -1,18 +1,18 @@
 // The screening of a full book in form, from its words.
 ghost use mathlib.Core.Path.{_≡_};
 ghost use mathlib.Core.Bool.{not};
-ghost use Prim.Native.Nat.{_+_, _-_, _≤_};
-ghost use lib.IntN.{natAbs, _-ℤ_};
+ghost use Prim.Native.Nat.{_+_, _-_, _*_, _^_, _≤_, _<_};
+ghost use lib.Dec.{ltb};
+ghost use lib.IntN.{pos, natAbs, _-ℤ_};
+ghost use Rattle.whole.specs.Nearest.{nearestOf};
 ghost use Rattle.paper.specs.Procedure.{SERIES, SETS};
-ghost use Rattle.paper.specs.Screening.{passes, suspicious, firstSuspect};
+ghost use Rattle.paper.specs.Screening.{square, passes, suspicious, firstSuspect};
 ghost use Rattle.image.specs.Lengths.{len, termsOf};
 ghost use Rattle.image.specs.Places.{placesOf};
 ghost use Rattle.image.specs.Ready.{Ready, Between};
-ghost use Rattle.screen.specs.Named.{wordsFrom, distance, height, foundOf};
+ghost use Rattle.screen.specs.Named.{wordsFrom, mostPassing, distance, height, foundOf};
+use image::ZERO;
 use paper::Procedure;
-
-// The word of the length 0.
-const ZERO: u64 = 1000000000000;
 
 // Where D*, h*, s_xy and s_h stand among the terms.
 const DISTANCE: usize = 0;
@@ -41,26 +41,62 @@ fn apart(a: u64, b: u64) -> u64
     a - b
 }
 
-// Whether a difference is beyond the limit of a screening length, which is a word.
-fn beyond(s: u64, d: u64) -> bool
-    requires { ⌜ Between 1000000000001 1000000010000 s × (d ≤ 2000000) ⌝ }
-    ensures { λ r. ⌜ r ≡ not (passes (len s) d) ⌝ }
+// 25·s², which twice the square of a difference may reach. The screening length s is a word.
+fn limit(s: u64) -> u64
+    requires { ⌜ Between 1000000000001 1000000010000 s ⌝ }
+    ensures { λ r. ⌜ (r ≡ 25 * square (len s)) × (r ≤ 2500000000) ⌝ }
 {
     let k = s - ZERO;
-    25 * (k * k) < 2 * (d * d)
+    25 * (k * k)
 }
 
-// Whether the distance of a set is suspect.
-fn distance_suspect(terms: &[u64; 12], cells: &[u64; 90], series: usize, set: usize) -> bool
-    requires { ⌜ (1 ≤ series) × (series ≤ SERIES) × (1 ≤ set) × (set ≤ SETS) × Ready (now terms) (now cells) ⌝ }
+// The greatest difference that passes.
+fn most_passing(s: u64) -> u64
+    requires { ⌜ Between 1000000000001 1000000010000 s ⌝ }
+    ensures { λ r. ⌜ r ≡ mostPassing (len s) ⌝ }
+{
+    let most = limit(s);
+    whole::greatest(2, most)
+}
+
+// Whether the nearest root of q is further than most from a number. No root is taken.
+fn further(q: u64, about: u64, most: u64) -> bool
+    requires { ⌜ about + most < 2 ^ 32 ⌝ }
+    ensures { λ r. ⌜ r ≡ ltb most (natAbs (pos (nearestOf q) -ℤ pos about)) ⌝ }
+{
+    if whole::nearest_at_most(q, about + most) {
+        if most < about {
+            return whole::nearest_at_most(q, about - most - 1);
+        }
+        return false;
+    }
+    true
+}
+
+// Whether the distance of a set is suspect: further from D* than the greatest difference that passes.
+fn distance_suspect(
+    terms: &[u64; 12],
+    cells: &[u64; 90],
+    series: usize,
+    set: usize,
+    most: u64,
+) -> bool
+    requires { ⌜ (1 ≤ series) × (series ≤ SERIES) × (1 ≤ set) × (set ≤ SETS) × Ready (now terms) (now cells) × (most ≡ mostPassing (termsOf (now terms) .screenXY)) ⌝ }
     ensures { λ r. ⌜ r ≡ suspicious (termsOf (now (terms .entry))) (placesOf (now (cells .entry))) (distance series set) ⌝ }
 {
     let m = words_from(series, set);
     let dx = apart(cells[m + 3], cells[m]);
     let dy = apart(cells[m + 4], cells[m + 1]);
-    let near = whole::nearest(dx * dx + dy * dy);
-    let d = apart(near + ZERO, terms[DISTANCE]);
-    beyond(terms[SCREEN_XY], d)
+    further(dx * dx + dy * dy, terms[DISTANCE] - ZERO, most)
+}
+
+// Whether a difference is beyond the limit of a screening length.
+fn beyond(s: u64, d: u64) -> bool
+    requires { ⌜ Between 1000000000001 1000000010000 s × (d ≤ 2000000) ⌝ }
+    ensures { λ r. ⌜ r ≡ not (passes (len s) d) ⌝ }
+{
+    let most = limit(s);
+    most < 2 * (d * d)
 }
 
 // Whether the height of a set is suspect.
@@ -84,10 +120,11 @@ pub fn first_suspect(terms: &[u64; 12], cells: &[u64; 90]) -> Found
     requires { ⌜ Ready (now terms) (now cells) ⌝ }
     ensures { λ r. ⌜ r ≡ foundOf (firstSuspect (termsOf (now (terms .entry))) (placesOf (now (cells .entry)))) ⌝ }
 {
+    let most = most_passing(terms[SCREEN_XY]);
     let mut found = Found::Nowhere;
     'search: for series in 1..=Procedure::SERIES {
         for set in 1..=Procedure::SETS {
-            if distance_suspect(terms, cells, series, set) {
+            if distance_suspect(terms, cells, series, set, most) {
                 found = Found::At(series as u64, set as u64, 1);
                 break 'search;
             }

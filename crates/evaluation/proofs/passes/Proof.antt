@@ -1,22 +1,51 @@
 -- `evaluation::passes` meets its contract. Assumes nothing.
+use mathlib.Core.Path.{sym, _∙_}
 use borrow.Author.Needs.{needs}
-use Rattle.evaluation.proofs.Evaluating.{refused-off, beyond-off, within-on}
+use Rattle.form.proofs.Laws.{known}
+use Rattle.form.proofs.Meets.{ready}
+use Rattle.evaluation.proofs.Evaluating.{short-off, suspect-off, clear-on}
 use Rattle.evaluation.proofs.passes.Statement.{statement}
 use Rattle.evaluation.proofs.passes.Tie as tie
 
-judged-requires : tie.Need-judged-requires
-judged-requires c κs = search needs
+any-empty-requires : tie.Need-any-empty-requires
+any-empty-requires c κs = search needs
 
 returns : tie.Need-returns
-returns c = refused-off _ (c .before .before .judged .result) (c .before .before .judged .ensures .0) (c .if1 .taken)
+returns c = short-off _ _ (known (c .before .any-empty .ensures) (c .if1 .taken))
+
+first-suspect-requires : tie.Need-first-suspect-requires
+first-suspect-requires c κs =
+    let p = c .before .before .pre in
+    ready _ _ (p .0) (p .1) (known (c .before .any-empty .ensures) (c .if1 .left))
+
+enum-told : tie.Need-enum-told
+enum-told c = search needs
+
+both-within-requires : tie.Need-both-within-requires
+both-within-requires c κs =
+    let p = c .before .before .before .before .before .pre in
+    ready _ _ (p .0) (p .1) (known (c .before .before .before .before .any-empty .ensures) (c .before .before .before .if1 .left))
+
+enum-told-2 : tie.Need-enum-told-2
+enum-told-2 c = search needs
 
 returns-2 : tie.Need-returns-2
 returns-2 c =
-    within-on _ (c .before .before .before .before .before .before .judged .result) (c .before .before .before .before .before .before .judged .ensures .0) (c .before .before .before .before .if1 .left) (c .if2 .taken)
+    c .both-within .ensures ∙ clear-on _ _ (known (c .before .before .before .before .before .any-empty .ensures) (c .before .before .before .before .if1 .left)) (sym (c .before .enum-told .given .1) ∙ c .before .before .before .first-suspect .ensures)
 
 returns-3 : tie.Need-returns-3
 returns-3 c =
-    beyond-off _ (c .before .before .before .before .before .before .judged .result) (c .before .before .before .before .before .before .judged .ensures .0) (c .before .before .before .before .if1 .left) (c .if2 .left)
+    suspect-off _ _ (known (c .before .before .before .before .any-empty .ensures) (c .before .before .before .if1 .left)) _ _ _ (sym (c .enum-told2 .given .1) ∙ c .before .before .first-suspect .ensures)
 
 pub passes-spec : {M : Type 1} → statement M
-passes-spec = tie.close (tie.spec judged-requires returns returns-2 returns-3)
+passes-spec =
+    tie.close
+    (tie.spec
+    any-empty-requires
+    returns
+    first-suspect-requires
+    enum-told
+    both-within-requires
+    enum-told-2
+    returns-2
+    returns-3)

@@ -2,7 +2,7 @@
 use native.Mathlib.Omega.{arith}
 use borrow.Author.Needs.{needs}
 use Rattle.image.specs.Lengths.{termsOf}
-use Rattle.figures.proofs.Judging.{evaluation-is}
+use Rattle.figures.proofs.Judging.{shown-xy, shown-h, evaluation-is}
 use Rattle.figures.proofs.evaluate.Statement.{statement}
 use Rattle.figures.proofs.evaluate.Tie as tie
 
@@ -17,14 +17,18 @@ element-copy-out-judged-by c = search needs
 
 judged-by-requires : tie.Need-judged-by-requires
 judged-by-requires c κs =
-    (omega arith, omega arith, omega arith, omega arith, c .before .before .sums .ensures .1 .p, c .before .before .before .pre .scales 4 (omega arith) (omega arith))
+    let s = c .before .before .sums in
+    let f = c .before .shown-of in
+    (omega arith, omega arith, omega arith, omega arith, s .ensures .1 .p, shown-xy (s .result) (f .result) (f .ensures .0), f .ensures .1 .sxy, c .before .before .before .pre .scales 4 (omega arith) (omega arith))
 
 element-copy-out-judged-by-2 : tie.Need-element-copy-out-judged-by-2
 element-copy-out-judged-by-2 c = search needs
 
 judged-by-requires-2 : tie.Need-judged-by-requires-2
 judged-by-requires-2 c κs =
-    (omega arith, omega arith, omega arith, omega arith, c .before .before .before .before .sums .ensures .1 .qh, c .before .before .before .before .before .pre .scales 5 (omega arith) (omega arith))
+    let s = c .before .before .before .before .sums in
+    let f = c .before .before .before .shown-of in
+    (omega arith, omega arith, omega arith, omega arith, s .ensures .1 .qh, shown-h (s .result) (f .result) (f .ensures .0), f .ensures .1 .sh, c .before .before .before .before .before .pre .scales 5 (omega arith) (omega arith))
 
 returns : tie.Need-returns
 unfolding termsOf

@@ -7,8 +7,6 @@ use lib.ListN.{length, drop, replicate, length-set}
 use Rattle.listing.proofs.Turns.{clear-turn, cleared-all}
 use Rattle.listing.proofs.clear.Statement.{statement}
 use Rattle.listing.proofs.clear.Tie as tie
-use Rattle.listing.proofs.clear.Reads as reads
-use Rattle.listing.proofs.clear.Lts as lts
 
 abbrev Inv-loop : tie.InvT-loop
 Inv-loop bytes₀ i₀ bytes i =

@@ -1,8 +1,7 @@
 use borrow.Author.Needs.{needs}
-use Prim.Native.Nat.{_≤_, _<_, _-_, _+_}
+use Prim.Native.Nat.{_≤_, _<_, _-_}
 use native.Mathlib.Omega.{arith}
-use mathlib.Core.Path.{_≡_, refl, sym, ap, _∙_}
-use mathlib.Core.List.{List}
+use mathlib.Core.Path.{_≡_, refl, ap, _∙_}
 use lib.ListN.{length, take, length-set}
 use Rattle.paper.specs.Procedure.{BOOKS}
 use Rattle.paper.specs.Screening.{each}
@@ -11,9 +10,6 @@ use Rattle.form.proofs.Laws.{known}
 use Rattle.listing.proofs.Turns.{listedBy, list-more, list-same}
 use Rattle.listing.proofs.listed.Statement.{statement}
 use Rattle.listing.proofs.listed.Tie as tie
-use Rattle.listing.proofs.listed.Reads as reads
-use Rattle.listing.proofs.listed.Lts as lts
-use Rattle.listing.proofs.on_list.Reads as on-list-reads
 
 abbrev Inv-loop : tie.InvT-loop
 Inv-loop register numbers₀ count₀ k₀ numbers count k =

@@ -1,20 +1,11 @@
-use Prim.Native.Nat.{_+_, _*_, _≤_}
 use native.Mathlib.Omega.{arith}
-use mathlib.Core.Path.{_≡_, sym, ap, _∙_}
-use mathlib.Core.Bool.{true, false}
-use Rattle.book.specs.declared.Book.{Book}
-use Rattle.book.specs.Meaning.{bookForm}
-use Rattle.lent.specs.Image.{BOOK, bookAt}
+use mathlib.Core.Path.{_∙_}
 use Rattle.lent.proofs.Image.{form-length, form-at}
-use Rattle.questions.proofs.Asks.{Opened, words-formed}
+use Rattle.questions.proofs.Asks.{words-formed}
 use Rattle.listing.proofs.Turns.{closed-not, open-passes}
 use borrow.Author.Needs.{needs}
 use Rattle.listing.proofs.on_list.Statement.{statement}
 use Rattle.listing.proofs.on_list.Tie as tie
-use Rattle.listing.proofs.on_list.Reads as reads
-use Rattle.listing.proofs.on_list.Lts as lts
-use Rattle.evaluation.proofs.passes.Reads as passes-reads
-use Rattle.lent.proofs.load.Reads as load-reads
 
 mul-load : tie.Need-mul-load
 mul-load c = search needs

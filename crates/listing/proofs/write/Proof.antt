@@ -1,15 +1,12 @@
 use borrow.Author.Needs.{needs}
 use Prim.Native.Nat.{_≤_, _<_, _-_}
 use native.Mathlib.Omega.{arith}
-use mathlib.Core.Path.{_≡_, refl, ap, _∙_}
+use mathlib.Core.Path.{_≡_, refl}
 use mathlib.Core.List.{_++_}
 use lib.ListN.{length, take, drop, length-set}
-use lib.Seq.{take-length}
 use Rattle.listing.proofs.Turns.{write-turn, written-all}
 use Rattle.listing.proofs.write.Statement.{statement}
 use Rattle.listing.proofs.write.Tie as tie
-use Rattle.listing.proofs.write.Reads as reads
-use Rattle.listing.proofs.write.Lts as lts
 
 abbrev Inv-loop : tie.InvT-loop
 Inv-loop from list₀ i₀ list i =

@@ -1,7 +1,9 @@
 -- `screen::apart` meets its contract. Assumes nothing.
+use Prim.Native.Nat.{_+_, _-_}
 use native.Mathlib.Omega.{arith}
+use mathlib.Core.Path.{_≡_}
 use borrow.Author.Needs.{needs}
-use Rattle.screen.proofs.Sets.{abs-less, abs-more}
+use Rattle.screen.proofs.Limits.{words-apart}
 use Rattle.screen.proofs.apart.Statement.{statement}
 use Rattle.screen.proofs.apart.Tie as tie
 
@@ -9,10 +11,18 @@ sub-result : tie.Need-sub-result
 sub-result c = search needs
 
 returns : tie.Need-returns
-returns c = (abs-less _ _ (c .if1 .taken), omega arith)
+returns c =
+    let a = c .before .args .a in
+    let b = c .before .args .b in
+    let e : b - a ≡ a - b + (b - a) = omega arith in
+    (words-apart a b (b - a) e, e)
 
 returns-2 : tie.Need-returns-2
-returns-2 c = (abs-more _ _ (c .if1 .left), omega arith)
+returns-2 c =
+    let a = c .before .args .a in
+    let b = c .before .args .b in
+    let e : a - b ≡ a - b + (b - a) = omega arith in
+    (words-apart a b (a - b) e, e)
 
 pub apart-spec : {M : Type 1} → statement M
 apart-spec = tie.close (tie.spec sub-result returns returns-2)

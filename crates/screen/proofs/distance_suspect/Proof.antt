@@ -1,10 +1,10 @@
 -- `screen::distance_suspect` meets its contract. Assumes nothing.
-use Prim.Native.Nat.{ℕ, _+_, _*_, _≤_}
+use Prim.Native.Nat.{_+_, _*_, _≤_}
 use native.Mathlib.Omega.{arith}
-use mathlib.Core.Path.{subst, sym}
 use lib.ListN.{getD}
 use borrow.Author.Needs.{needs}
-use Rattle.screen.proofs.Sets.{Near, bounds, bounds-x, squared, nearest-le, distance-is}
+use Rattle.screen.proofs.Limits.{squared}
+use Rattle.screen.proofs.Sets.{Near, bounds, bounds-x, most-small, distance-is}
 use Rattle.screen.proofs.distance_suspect.Statement.{statement}
 use Rattle.screen.proofs.distance_suspect.Tie as tie
 
@@ -30,9 +30,6 @@ module _ (c : tie.After-apart2) where
 
   q-le : c .before .before .before .apart .result * c .before .before .before .apart .result + c .apart2 .result * c .apart2 .result ≤ 1000000000000
   q-le = omega (arith, squared dx-le, squared dy-le)
-
-D-le : (c : tie.After-nearest) → c .nearest .result ≤ 1000000
-D-le c = subst (λ (k : ℕ). k ≤ 1000000) (sym (c .nearest .ensures)) (nearest-le _ (q-le (c .before)))
 
 words-from-requires : tie.Need-words-from-requires
 words-from-requires c κs = search needs
@@ -76,39 +73,30 @@ element-copy-out-apart-4 c = search needs
 apart-requires-2 : tie.Need-apart-requires-2
 apart-requires-2 c κs = search needs
 
-mul-nearest : tie.Need-mul-nearest
-mul-nearest c = omega (arith, squared (dx-le c))
+mul-further : tie.Need-mul-further
+mul-further c = omega (arith, squared (dx-le c))
 
-mul-nearest-2 : tie.Need-mul-nearest-2
-mul-nearest-2 c = omega (arith, squared (dy-le c))
+mul-further-2 : tie.Need-mul-further-2
+mul-further-2 c = omega (arith, squared (dy-le c))
 
-add-nearest : tie.Need-add-nearest
-add-nearest c = omega (arith, q-le c)
+add-further : tie.Need-add-further
+add-further c = omega (arith, q-le c)
 
-nearest-requires : tie.Need-nearest-requires
-nearest-requires c κs = search needs
+element-copy-out-further : tie.Need-element-copy-out-further
+element-copy-out-further c = search needs
 
-add-apart-4 : tie.Need-add-apart-4
-add-apart-4 c = omega (arith, D-le c)
+sub-further : tie.Need-sub-further
+sub-further c = search needs
 
-element-copy-out-apart-5 : tie.Need-element-copy-out-apart-5
-element-copy-out-apart-5 c = search needs
-
-apart-requires-3 : tie.Need-apart-requires-3
-apart-requires-3 c κs = search needs
-
-element-copy-out-beyond : tie.Need-element-copy-out-beyond
-element-copy-out-beyond c = search needs
-
-beyond-requires : tie.Need-beyond-requires
-beyond-requires c κs =
-    let r = c .before .before .before .before .before .before .before .before .before .before .before .pre .4 in
-    (r .scales 2 (omega arith) (omega arith), omega (arith, D-le (c .before .before .before), r .distance, c .before .apart3 .ensures .1))
+further-requires : tie.Need-further-requires
+further-requires c κs =
+    let s = c .before .before .before .before .before .before .before .before in
+    omega (arith, most-small (s .args .terms .now) (s .args .cells .now) (s .pre .4) (s .args .most) (s .pre .5))
 
 returns : tie.Need-returns
 returns c =
-    let s = c .before .before .before .before .before .before .before .before .before .before .before .before in
-    distance-is (s .args .terms .now) (s .args .cells .now) (s .pre .4) (s .args .series) (s .args .set) (s .pre .0) (s .pre .1) (s .pre .2) (s .pre .3) _ (c .before .before .before .before .before .before .before .before .before .before .before .words-from .ensures) _ _ _ _ _ (c .before .before .before .before .before .before .before .before .apart .ensures .0) (c .before .before .before .before .before .apart2 .ensures .0) (c .before .before .before .before .nearest .ensures) (c .before .before .apart3 .ensures .0) (c .beyond .ensures)
+    let s = c .before .before .before .before .before .before .before .before .before in
+    distance-is (s .args .terms .now) (s .args .cells .now) (s .pre .4) (s .args .series) (s .args .set) (s .pre .0) (s .pre .1) (s .pre .2) (s .pre .3) _ (c .before .before .before .before .before .before .before .before .words-from .ensures) _ _ _ _ (c .before .before .before .before .before .apart .ensures .0) (c .before .before .apart2 .ensures .0) (s .pre .5) (c .further .ensures)
 
 pub distance-suspect-spec : {M : Type 1} → statement M
 distance-suspect-spec =
@@ -128,13 +116,10 @@ distance-suspect-spec =
     mul-apart-4
     element-copy-out-apart-4
     apart-requires-2
-    mul-nearest
-    mul-nearest-2
-    add-nearest
-    nearest-requires
-    add-apart-4
-    element-copy-out-apart-5
-    apart-requires-3
-    element-copy-out-beyond
-    beyond-requires
+    mul-further
+    mul-further-2
+    add-further
+    element-copy-out-further
+    sub-further
+    further-requires
     returns)

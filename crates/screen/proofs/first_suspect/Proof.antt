@@ -12,18 +12,25 @@ use Rattle.screen.proofs.first_suspect.Statement.{statement}
 use Rattle.screen.proofs.first_suspect.Tie as tie
 
 abbrev Inv-loop : tie.InvT-loop
-Inv-loop terms cells found₀ series set₀ found set =
+Inv-loop terms cells most found₀ series set₀ found set =
     (found ≡ Nowhere) × (1 ≤ series) × (series ≤ SERIES) × (1 ≤ set) × (set ≤ SETS + 1) × SeriesClear (termsOf terms) (placesOf cells) series × SetsClear (termsOf terms) (placesOf cells) series set
 
 abbrev μ-loop : tie.MeasureT-loop
-μ-loop terms cells found₀ series set₀ found set = SETS + 1 - set
+μ-loop terms cells most found₀ series set₀ found set = SETS + 1 - set
 
 abbrev Inv-search : tie.InvT-search
-Inv-search terms cells found₀ series₀ found series =
+Inv-search terms cells most found₀ series₀ found series =
     (found ≡ Nowhere) × (1 ≤ series) × (series ≤ SERIES + 1) × SeriesClear (termsOf terms) (placesOf cells) series
 
 abbrev μ-search : tie.MeasureT-search
-μ-search terms cells found₀ series₀ found series = SERIES + 1 - series
+μ-search terms cells most found₀ series₀ found series = SERIES + 1 - series
+
+element-copy-out-most-passing :
+    tie.Need-element-copy-out-most-passing Inv-loop μ-loop Inv-search μ-search
+element-copy-out-most-passing c = search needs
+
+most-passing-requires : tie.Need-most-passing-requires Inv-loop μ-loop Inv-search μ-search
+most-passing-requires c κs = c .before .pre .scales 2 (omega arith) (omega arith)
 
 search-holds : tie.Need-search-holds Inv-loop μ-loop Inv-search μ-search
 search-holds c = (search needs, omega arith, omega arith, start _ _)
@@ -33,7 +40,10 @@ loop-holds c =
     (c .before .search .inv .0, omega arith, omega arith, omega arith, omega arith, c .before .search .inv .3, start-row _ _ _)
 
 distance-suspect-requires : tie.Need-distance-suspect-requires Inv-loop μ-loop Inv-search μ-search
-distance-suspect-requires c κs = search needs
+unfolding termsOf
+distance-suspect-requires c κs =
+    let v = c .before .loop .inv in
+    (v .1, v .2, v .3, omega arith, c .before .before .before .before .before .before .pre, c .before .before .before .before .most-passing .ensures)
 
 height-suspect-requires : tie.Need-height-suspect-requires Inv-loop μ-loop Inv-search μ-search
 height-suspect-requires c κs = search needs
@@ -85,6 +95,8 @@ first-suspect-spec =
     μ-loop
     Inv-search
     μ-search
+    element-copy-out-most-passing
+    most-passing-requires
     search-holds
     loop-holds
     distance-suspect-requires

@@ -1,4 +1,4 @@
-use Prim.Native.Nat.{ℕ, _*_, _/_, _^_, _≤_, _<_}
+use Prim.Native.Nat.{ℕ, _/_, _^_, _<_}
 use native.Mathlib.Omega.{arith}
 use native.Mathlib.Nat.{lt-of-le-of-lt, div-le-self, le-trans}
 use Rattle.whole.specs.Root.{Root, root-lt, one-root, rootOf-root}
@@ -6,9 +6,6 @@ use Rattle.whole.specs.Greatest.{greatestOf}
 use borrow.Author.Needs.{needs}
 use Rattle.whole.proofs.greatest.Statement.{statement}
 use Rattle.whole.proofs.greatest.Tie as tie
-use Rattle.whole.proofs.greatest.Reads as reads
-use Rattle.whole.proofs.greatest.Lts as lts
-use Rattle.whole.proofs.root.Reads as root-reads
 
 below : (n a r : ℕ) → n < 2 ^ 64 → Root (n / a) r → r < 2 ^ 32
 below n a r h g = root-lt (lt-of-le-of-lt (le-trans (g .reaches) (div-le-self n a)) h)

@@ -1,7 +1,7 @@
 -- `whole::millimetres` meets its contract: m below 2 ^ 53 is a double as it stands, and a quotient is rounded from its fraction. Assumes nothing.
 use mathlib.Core.Path.{_≡_, refl, ap, _∙_}
 use mathlib.Core.Bool.{true, false, true≢false}
-use Prim.Native.Nat.{ℕ, _*_, _^_, _≤_, _<_}
+use Prim.Native.Nat.{ℕ, _*_, _^_, _<_}
 use native.Mathlib.Nat.{mul-pos, le-of-lt}
 use native.Mathlib.Omega.{arith}
 use lib.Dec.{le→leb, lit<}

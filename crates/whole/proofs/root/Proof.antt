@@ -1,7 +1,8 @@
 -- `whole::root` meets its contract. The invariant: the root lies from low up to high. Assumes nothing.
-use mathlib.Core.Path.{_≡_, refl}
-use Prim.Native.Nat.{ℕ, zero, suc, _+_, _-_, _*_, _/_, _^_, _≤_, _<_}
+use mathlib.Core.Path.{_≡_}
+use Prim.Native.Nat.{_+_, _-_, _*_, _^_, _≤_, _<_}
 use native.Mathlib.Omega.{arith}
+use borrow.Author.Needs.{needs}
 use Rattle.whole.proofs.Squares.{square-fits}
 use Rattle.whole.proofs.root.Statement.{statement}
 use Rattle.whole.proofs.root.Tie as tie
@@ -11,6 +12,9 @@ Inv-loop n low₀ high₀ low high = (low * low ≤ n) × (n < high * high) × (
 
 abbrev μ-loop : tie.MeasureT-loop
 μ-loop n low₀ high₀ low high = high - low
+
+above-requires : tie.Need-above-requires Inv-loop μ-loop
+above-requires c κs = search needs
 
 loop-holds : tie.Need-loop-holds Inv-loop μ-loop
 loop-holds c = omega arith
@@ -47,4 +51,4 @@ returns c =
 
 pub root-spec : {M : Type 1} → statement M
 root-spec =
-    tie.close (tie.spec Inv-loop μ-loop loop-holds sub-loop sub-mid add-mid mul-if1 loop-less loop-again loop-less-2 loop-again-2 returns)
+    tie.close (tie.spec Inv-loop μ-loop above-requires loop-holds sub-loop sub-mid add-mid mul-if1 loop-less loop-again loop-less-2 loop-again-2 returns)
