@@ -175,40 +175,18 @@ seen-some b o s e = go (bookForm b) refl e
         (subst (λ (p : Option paper.Book). formedO p ≡ true) m (form-formed b f), subst (λ (p : Option paper.Book). bookOf p ≡ b) m (form-book b s f))
     go false f h = let z : _≡_ {A = ℕ} 0 1 = cc in absurd (omega arith)
 
--- ---- the tests of an open book, one after another
-
-formed-is : (b : Book) → b .kept ≤ KEPT → formed (openOf b) ≡ inRange (termsOf (b .terms)) && (allNear (termsOf (b .terms)) 0 (placesOf (b .cells)) && takeable (termsOf (b .terms)) (placesOf (b .cells)) (entries (b .kept) (b .changes)))
-unfolding formed openOf placesOf
-formed-is b h =
-    let n : leb (length (entries (b .kept) (b .changes))) KEPT ≡ true = rw (length-entries (b .kept) (b .changes)) (le-leb (b .kept) KEPT h) in
-    rw (eq-eqb (length (spots PLACES (b .cells))) PLACES (length-spots PLACES (b .cells)), n)
-    (go (inRange (termsOf (b .terms))) (allNear (termsOf (b .terms)) 0 (placesOf (b .cells))))
-  where
-    go : (r n : Bool) → r && true && n && true && takeable (termsOf (b .terms)) (placesOf (b .cells)) (entries (b .kept) (b .changes)) ≡ r && (n && takeable (termsOf (b .terms)) (placesOf (b .cells)) (entries (b .kept) (b .changes)))
-    go true true = refl
-    go true false = refl
-    go false n = refl
+-- ---- the form by `opened`
 
 module _ (b : Book) where
-  pub sound-many : KEPT < b .kept → false ≡ sound b
-  unfolding sound
-  sound-many h = rw (lt-leb (b .kept) KEPT h)
+  pub blank-form : {r : Bool} → b .opened ≡ 0 → r ≡ blank b → r ≡ bookForm b
+  unfolding bookForm
+  blank-form o e = rw (eq-eqb (b .opened) 0 o) e
 
-  module _ (h : b .kept ≤ KEPT) where
-    pub sound-unused : zeros (drop (b .kept * 4) (b .changes)) ≡ false → false ≡ sound b
-    unfolding sound
-    sound-unused z = rw (le-leb (b .kept) KEPT h, z)
+  module _ (f : b .opened ≡ 0 → ⊥) where
+    pub sound-form : {r : Bool} → b .opened ≡ 1 → r ≡ sound b → r ≡ bookForm b
+    unfolding bookForm
+    sound-form o e = rw (ne-eqb (b .opened) 0 f, eq-eqb (b .opened) 1 o) e
 
-    module _ (z : zeros (drop (b .kept * 4) (b .changes)) ≡ true) where
-      pub sound-terms : inRange (termsOf (b .terms)) ≡ false → false ≡ sound b
-      unfolding sound
-      sound-terms r = rw (le-leb (b .kept) KEPT h, z, formed-is b h, r)
-
-      module _ (r : inRange (termsOf (b .terms)) ≡ true) where
-        pub sound-near : allNear (termsOf (b .terms)) 0 (placesOf (b .cells)) ≡ false → false ≡ sound b
-        unfolding sound
-        sound-near n = rw (le-leb (b .kept) KEPT h, z, formed-is b h, r, n)
-
-        pub sound-changes : allNear (termsOf (b .terms)) 0 (placesOf (b .cells)) ≡ true → takeable (termsOf (b .terms)) (placesOf (b .cells)) (entries (b .kept) (b .changes)) ≡ sound b
-        unfolding sound
-        sound-changes n = rw (le-leb (b .kept) KEPT h, z, formed-is b h, r, n)
+    pub no-form : (b .opened ≡ 1 → ⊥) → false ≡ bookForm b
+    unfolding bookForm
+    no-form g = rw (ne-eqb (b .opened) 0 f, ne-eqb (b .opened) 1 g)

@@ -8,7 +8,7 @@ ghost use Rattle.paper.specs.Units.{zeros};
 ghost use Rattle.paper.specs.Calls.{begin, strike, enter, correct, withdraw, takeBack, read, changes};
 ghost use Rattle.paper.specs.Alone.{askedAlone};
 ghost use Rattle.image.specs.Lengths.{termsOf, termsGiven};
-ghost use Rattle.book.specs.Meaning.{bookOf, blank, sound, bookForm, seen};
+ghost use Rattle.book.specs.Meaning.{bookOf, bookForm, seen};
 ghost use Rattle.book.specs.Steps.{stepOf, aimOf, changedOf, undoneOf, placedOf, begunOf, lengthsBy, lengthsOf, countBy, countOf};
 use paper::Procedure;
 
@@ -46,57 +46,18 @@ pub fn closed() -> Book
 
 // ---- the form
 
-// Whether a closed book is empty.
-fn is_blank(b: Book) -> bool
-    ensures { λ r. ⌜ r ≡ blank b ⌝ }
-{
-    let terms = b.terms;
-    let cells = b.cells;
-    let changes = b.changes;
-    if b.kept != 0 {
-        return false;
-    }
-    if form::zero_from(&terms, 0) {
-        if form::zero_from(&cells, 0) {
-            return form::zero_from(&changes, 0);
-        }
-        return false;
-    }
-    false
-}
-
-// Whether an open book is in form.
-fn is_sound(b: Book) -> bool
-    ensures { λ r. ⌜ r ≡ sound b ⌝ }
-{
-    let terms = b.terms;
-    let cells = b.cells;
-    let kept = b.kept;
-    let changes = b.changes;
-    if kept > Procedure::KEPT as u64 {
-        return false;
-    }
-    if form::zero_from(&changes, (kept as usize) * 4) {
-        if form::in_range(&terms) {
-            if form::all_near(&terms, &cells) {
-                return form::changes_ok(&terms, cells, kept, &changes);
-            }
-            return false;
-        }
-        return false;
-    }
-    false
-}
-
 // Whether a book is in form.
 pub fn in_form(b: Book) -> bool
     ensures { λ r. ⌜ r ≡ bookForm b ⌝ }
 {
+    let terms = b.terms;
+    let cells = b.cells;
+    let changes = b.changes;
     if b.opened == 0 {
-        return is_blank(b);
+        return form::blank(&terms, &cells, b.kept, &changes);
     }
     if b.opened == 1 {
-        return is_sound(b);
+        return form::sound(&terms, &cells, b.kept, &changes);
     }
     false
 }
@@ -109,19 +70,16 @@ impl Book {
         requires { ⌜ place < 30 ⌝ }
         ensures { λ r. ⌜ r ≡ changedOf self place (x ∷ y ∷ h ∷ []) ⌝ }
     {
-        let opened = self.opened;
         let terms = self.terms;
         let old = self.cells;
-        let kept = self.kept;
         let was = self.changes;
-        let m = place * 3;
-        let changes = changes::push(was, place as u64, old[m], old[m + 1], old[m + 2]);
+        let changes = changes::keep(was, &old, place);
         let cells = changes::put(old, place, x, y, h);
         Book {
-            opened,
+            opened: self.opened,
             terms,
             cells,
-            kept: changes::one_more(kept),
+            kept: changes::one_more(self.kept),
             changes,
         }
     }
@@ -131,18 +89,16 @@ impl Book {
         requires { ⌜ (getD (self .changes) 0 0 < 30) × (0 < self .kept) ⌝ }
         ensures { λ r. ⌜ r ≡ undoneOf self ⌝ }
     {
-        let opened = self.opened;
         let terms = self.terms;
         let old = self.cells;
-        let kept = self.kept;
         let was = self.changes;
-        let cells = changes::put(old, was[0] as usize, was[1], was[2], was[3]);
+        let cells = changes::take_back(old, &was);
         let changes = changes::pop(was);
         Book {
-            opened,
+            opened: self.opened,
             terms,
             cells,
-            kept: kept - 1,
+            kept: self.kept - 1,
             changes,
         }
     }
@@ -153,7 +109,7 @@ impl Book {
         ensures { λ r. ⌜ r ≡ placedOf self place x y h ⌝ }
     {
         let terms = self.terms;
-        if form::near(&terms, place, x, y, h) {
+        if ranges::near(&terms, place, x, y, h) {
             return Step {
                 refusal: 0,
                 book: self.changed(place, x, y, h),
@@ -231,7 +187,7 @@ impl Book {
             };
         }
         let cells = self.cells;
-        if form::empty_at(&cells, place) {
+        if places::empty_at(&cells, place) {
             return self.placed(
                 place,
                 image::word_of(x),
@@ -259,7 +215,7 @@ impl Book {
             };
         }
         let cells = self.cells;
-        if form::empty_at(&cells, place) {
+        if places::empty_at(&cells, place) {
             return Step {
                 refusal: 7,
                 book: self,
@@ -287,7 +243,7 @@ impl Book {
             };
         }
         let cells = self.cells;
-        if form::empty_at(&cells, place) {
+        if places::empty_at(&cells, place) {
             return Step {
                 refusal: 7,
                 book: self,
@@ -360,7 +316,7 @@ impl Book {
                     book: self,
                 };
             }
-            if form::in_range(&terms) {
+            if ranges::in_range(&terms) {
                 return Step {
                     refusal: 0,
                     book: begun(terms),
@@ -449,7 +405,7 @@ impl Book {
             return no_lengths(refusal);
         }
         let cells = self.cells;
-        if form::empty_at(&cells, place) {
+        if places::empty_at(&cells, place) {
             return no_lengths(7);
         }
         let m = place * 3;

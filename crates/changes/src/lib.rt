@@ -1,8 +1,8 @@
 // One change in a book's words: a place put, and the kept changes with one more or one less.
 ghost use mathlib.Core.Path.{_≡_};
 ghost use mathlib.Core.List.{[], _∷_};
-ghost use Prim.Native.Nat.{_*_, _<_};
-ghost use lib.ListN.{length};
+ghost use Prim.Native.Nat.{_+_, _*_, _<_};
+ghost use lib.ListN.{length, getD};
 ghost use Rattle.words.specs.Paste.{pasted};
 ghost use Rattle.changes.specs.Kept.{pushed, popped, more};
 use paper::Procedure;
@@ -20,7 +20,7 @@ fn copy(from: &[u64], out: &mut [u64])
 }
 
 // The kept changes with one more, the latest first; the oldest falls away.
-pub fn push(old: [u64; 128], place: u64, x: u64, y: u64, h: u64) -> [u64; 128]
+fn push(old: [u64; 128], place: u64, x: u64, y: u64, h: u64) -> [u64; 128]
     ensures { λ r. ⌜ r ≡ pushed old place x y h ⌝ }
 {
     let mut out = [0u64; 128];
@@ -30,6 +30,15 @@ pub fn push(old: [u64; 128], place: u64, x: u64, y: u64, h: u64) -> [u64; 128]
     out[3] = h;
     copy(&old[0..124], &mut out[4..128]);
     out
+}
+
+// The kept changes with one more, of a place and what stands there.
+pub fn keep(old: [u64; 128], cells: &[u64; 90], place: usize) -> [u64; 128]
+    requires { ⌜ place < 30 ⌝ }
+    ensures { λ r. ⌜ r ≡ pushed old place (getD (now (cells .entry)) (place * 3) 0) (getD (now (cells .entry)) (place * 3 + 1) 0) (getD (now (cells .entry)) (place * 3 + 2) 0) ⌝ }
+{
+    let m = place * 3;
+    push(old, place as u64, cells[m], cells[m + 1], cells[m + 2])
 }
 
 // The kept changes without the latest.
@@ -63,4 +72,18 @@ pub fn put(old: [u64; 90], place: usize, x: u64, y: u64, h: u64) -> [u64; 90]
     out[m + 1] = y;
     out[m + 2] = h;
     out
+}
+
+// The places with the latest kept change taken back.
+pub fn take_back(cells: [u64; 90], changes: &[u64; 128]) -> [u64; 90]
+    requires { ⌜ getD (now changes) 0 0 < 30 ⌝ }
+    ensures { λ r. ⌜ r ≡ pasted cells (getD (now (changes .entry)) 0 0 * 3) (getD (now (changes .entry)) 1 0 ∷ getD (now (changes .entry)) 2 0 ∷ getD (now (changes .entry)) 3 0 ∷ []) ⌝ }
+{
+    put(
+        cells,
+        changes[0] as usize,
+        changes[1],
+        changes[2],
+        changes[3],
+    )
 }

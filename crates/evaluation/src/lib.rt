@@ -101,7 +101,7 @@ pub fn judged(terms: &[u64; 12], cells: &[u64; 90]) -> Judgement
     requires { ⌜ Formed (now terms) (now cells) ⌝ }
     ensures { λ r. ⌜ (r ≡ judgementOf (answerTo (sightOf (now (terms .entry)) (now (cells .entry))))) × AllHeld (r .evaluation) ⌝ }
 {
-    if form::any_empty(cells) {
+    if places::any_empty(cells) {
         return not_judged(10, 0, 0, 0);
     }
     screened(terms, cells)
@@ -250,10 +250,10 @@ pub fn compare<'a>(
     requires { ⌜ AnAxis axis × Formed (now t1) (now c1) × Formed (now t2) (now c2) ⌝ }
     ensures { λ r. ⌜ r ≡ comparedOf (comparisonTo axis (sightOf (now (t1 .entry)) (now (c1 .entry))) (sightOf (now (t2 .entry)) (now (c2 .entry)))) ⌝ }
 {
-    if form::any_empty(c1) {
+    if places::any_empty(c1) {
         return not_compared(10, 0, 0, 0);
     }
-    if form::any_empty(c2) {
+    if places::any_empty(c2) {
         return not_compared(10, 0, 0, 0);
     }
     both_screened(t1, c1, t2, c2, axis)

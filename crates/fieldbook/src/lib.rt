@@ -49,8 +49,8 @@ pub fn read_book(file: &[u8]) -> Step
     let terms = contents.terms;
     let cells = contents.cells;
     if formed {
-        if form::in_range(&terms) {
-            if form::all_near(&terms, &cells) {
+        if ranges::in_range(&terms) {
+            if places::all_near(&terms, &cells) {
                 return Step {
                     refusal: 0,
                     book: filled(terms, cells),

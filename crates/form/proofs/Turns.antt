@@ -38,62 +38,6 @@ pub zeros-end : (l : List ℕ) (i : ℕ) → length l ≤ i → zeros (drop i l)
 unfolding zeros
 zeros-end l i h = rw (drop-of-length-le l {i = i} h)
 
--- ---- the places from p on
-
-module _ (cells : List ℕ) where
-  abbrev from : ℕ → Places
-  from p = spots (PLACES - p) (drop (p * 3) cells)
-
-  start : placesOf cells ≡ from 0
-  unfolding placesOf
-  start = refl
-
-  turn : (p : ℕ) → p < PLACES → from p ≡ spotAt cells (p * 3) ∷ from (p + 1)
-  unfolding spots
-  turn p h =
-      let e : PLACES - p ≡ suc (PLACES - (p + 1)) = omega arith in
-      let z : p * 3 + 0 ≡ p * 3 = omega arith in
-      let g : p * 3 + 3 ≡ (p + 1) * 3 = omega arith in
-      rw (e, getD-drop (p * 3) cells 0 0, getD-drop (p * 3) cells 1 0, getD-drop (p * 3) cells 2 0, drop-drop 3 (p * 3) cells, z, g)
-
-  over : (p : ℕ) → p ≡ PLACES → from p ≡ []
-  unfolding spots
-  over p e = rw e
-
-  abbrev pub nearFrom : Terms → ℕ → Bool
-  nearFrom t p = allNear t p (from p)
-
-  module _ (t : Terms) where
-    pub near-start : allNear t 0 (placesOf cells) ≡ nearFrom t 0
-    near-start = ap (allNear t 0) start
-
-    pub near-on : (p : ℕ) → p < PLACES → nearAt t p (spotAt cells (p * 3)) ≡ true → nearFrom t p ≡ nearFrom t (p + 1)
-    unfolding allNear
-    near-on p h e = let f : suc p ≡ p + 1 = omega arith in rw (turn p h, e, f)
-
-    pub near-stop : (p : ℕ) → p < PLACES → nearAt t p (spotAt cells (p * 3)) ≡ false → nearFrom t p ≡ false
-    unfolding allNear
-    near-stop p h e = rw (turn p h, e)
-
-    pub near-end : (p : ℕ) → p ≡ PLACES → nearFrom t p ≡ true
-    unfolding allNear
-    near-end p e = rw (over p e)
-
-  abbrev pub emptyFrom : ℕ → Bool
-  emptyFrom p = some? isEmpty (from p)
-
-  pub empty-start : some? isEmpty (placesOf cells) ≡ emptyFrom 0
-  empty-start = ap (some? isEmpty) start
-
-  pub empty-on : (p : ℕ) → p < PLACES → isEmpty (spotAt cells (p * 3)) ≡ false → emptyFrom p ≡ emptyFrom (p + 1)
-  empty-on p h e = rw (turn p h, e)
-
-  pub empty-stop : (p : ℕ) → p < PLACES → isEmpty (spotAt cells (p * 3)) ≡ true → emptyFrom p ≡ true
-  empty-stop p h e = rw (turn p h, e)
-
-  pub empty-end : (p : ℕ) → p ≡ PLACES → emptyFrom p ≡ false
-  empty-end p e = rw (over p e)
-
 -- ---- a kept change
 
 module _ (t : Terms) (cells : List ℕ) (p x y h : ℕ) where
@@ -104,19 +48,9 @@ module _ (t : Terms) (cells : List ℕ) (p x y h : ℕ) where
   unfolding fits
   change-outside k = rw (le-ltb p PLACES k)
 
-  module _ (k : p < PLACES) where
-    pub change-far : nearAt t p (spotOf x y h) ≡ false → false ≡ fits t (placesOf cells) c
-    unfolding fits
-    change-far e = rw (lt-ltb p PLACES k, e)
-
-    module _ (e : nearAt t p (spotOf x y h) ≡ true) where
-      pub change-full : allZero x y h ≡ false → true ≡ fits t (placesOf cells) c
-      unfolding fits
-      change-full z = rw (lt-ltb p PLACES k, e, empty-spot x y h, z)
-
-      pub change-empty : (b : Bool) → allZero x y h ≡ true → isEmpty (spotAt cells (p * 3)) ≡ b → not b ≡ fits t (placesOf cells) c
-      unfolding fits
-      change-empty b z f = rw (lt-ltb p PLACES k, e, empty-spot x y h, z, place-at cells p k, f)
+  pub change-within : {a b e : Bool} → p < PLACES → a ≡ nearAt t p (spotOf x y h) → b ≡ allZero x y h → e ≡ isEmpty (spotAt cells (p * 3)) → a && not (b && e) ≡ fits t (placesOf cells) c
+  unfolding fits
+  change-within k near none-put empty = rw (lt-ltb p PLACES k, empty-spot x y h, place-at cells p k, near, none-put, empty)
 
 -- ---- the kept changes from j on, where `at` stands at the places then
 
@@ -158,3 +92,7 @@ module _ (t : Terms) (ch : List ℕ) (n : ℕ) where
   pub takeable-end : (at : List ℕ) (j : ℕ) → n ≤ j → takeableFrom at j ≡ true
   unfolding takeable entries
   takeable-end at j h = let e : n - j ≡ 0 = omega arith in rw e
+
+  pub takeable-none : (l : Places) → n ≡ 0 → true ≡ takeable t l (entries n ch)
+  unfolding takeable entries
+  takeable-none l e = rw e

@@ -50,7 +50,7 @@ pub fn residual(b: Book, series: u64, set: u64, point: u64) -> Lengths
     }
     let terms = b.terms;
     let cells = b.cells;
-    if form::any_empty(&cells) {
+    if places::any_empty(&cells) {
         return book::no_lengths(10);
     }
     residuals(&terms, &cells, place)

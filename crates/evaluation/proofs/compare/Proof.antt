@@ -2,7 +2,7 @@
 use mathlib.Core.Path.{_∙_}
 use borrow.Author.Needs.{needs}
 use Rattle.form.proofs.Laws.{known}
-use Rattle.form.proofs.Meets.{ready}
+use Rattle.places.proofs.Meets.{ready}
 use Rattle.evaluation.proofs.Comparing.{short-first, short-second, both-full}
 use Rattle.evaluation.proofs.compare.Statement.{statement}
 use Rattle.evaluation.proofs.compare.Tie as tie

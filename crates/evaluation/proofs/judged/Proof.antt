@@ -2,7 +2,7 @@
 use mathlib.Core.Path.{_∙_}
 use borrow.Author.Needs.{needs}
 use Rattle.form.proofs.Laws.{known}
-use Rattle.form.proofs.Meets.{ready}
+use Rattle.places.proofs.Meets.{ready}
 use Rattle.evaluation.proofs.Evaluating.{short-is, full-is}
 use Rattle.evaluation.proofs.judged.Statement.{statement}
 use Rattle.evaluation.proofs.judged.Tie as tie

@@ -11,8 +11,8 @@ use Rattle.fieldbook.proofs.read_book.Lts as lts
 use Rattle.fieldbook.proofs.filled.Reads as filled-reads
 use Rattle.fieldbook.proofs.refused.Reads as refused-reads
 use Rattle.fieldfile.proofs.read.Reads as read-reads
-use Rattle.form.proofs.all_near.Reads as all-near-reads
-use Rattle.form.proofs.in_range.Reads as in-range-reads
+use Rattle.places.proofs.all_near.Reads as all-near-reads
+use Rattle.ranges.proofs.in_range.Reads as in-range-reads
 
 read-requires : tie.Need-read-requires
 read-requires c κs = search needs

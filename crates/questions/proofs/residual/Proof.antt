@@ -2,7 +2,7 @@
 use mathlib.Core.Path.{ap, _∙_}
 use Rattle.paper.specs.Units.{Place}
 use Rattle.form.proofs.Laws.{known}
-use Rattle.form.proofs.Meets.{ready}
+use Rattle.places.proofs.Meets.{ready}
 use Rattle.book.specs.declared.Aim.{Aim}
 use Rattle.book.proofs.Meaning.{Sized}
 use Rattle.book.proofs.Steps.{place-small}

@@ -11,7 +11,7 @@ use Rattle.book.proofs.Book.begin_words.Reads as reads
 use Rattle.book.proofs.Book.begin_words.Lts as lts
 use Rattle.book.proofs.begun.Reads as begun-reads
 use Rattle.book.proofs.in_form.Reads as in-form-reads
-use Rattle.form.proofs.in_range.Reads as in-range-reads
+use Rattle.ranges.proofs.in_range.Reads as in-range-reads
 
 sized : (s : tie.Start) → Sized (s .args .self)
 sized s = record { terms-12 = search needs; cells-90 = search needs; changes-128 = search needs }

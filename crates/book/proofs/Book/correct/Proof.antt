@@ -16,7 +16,7 @@ use Rattle.book.proofs.Book.correct.Reads as reads
 use Rattle.book.proofs.Book.correct.Lts as lts
 use Rattle.book.proofs.Book.aim.Reads as aim-reads
 use Rattle.book.proofs.Book.placed.Reads as placed-reads
-use Rattle.form.proofs.empty_at.Reads as empty-at-reads
+use Rattle.places.proofs.empty_at.Reads as empty-at-reads
 use Rattle.image.proofs.word_of.Reads as word-of-reads
 
 sized : (s : tie.Start) → Sized (s .args .self)

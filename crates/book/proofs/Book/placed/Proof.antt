@@ -6,7 +6,7 @@ use Rattle.book.proofs.Book.placed.Tie as tie
 use Rattle.book.proofs.Book.placed.Reads as reads
 use Rattle.book.proofs.Book.placed.Lts as lts
 use Rattle.book.proofs.Book.changed.Reads as changed-reads
-use Rattle.form.proofs.near.Reads as near-reads
+use Rattle.ranges.proofs.near.Reads as near-reads
 
 near-requires : tie.Need-near-requires
 near-requires c κs = search needs

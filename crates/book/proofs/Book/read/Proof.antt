@@ -19,7 +19,7 @@ use Rattle.book.proofs.Book.read.Reads as reads
 use Rattle.book.proofs.Book.read.Lts as lts
 use Rattle.book.proofs.Book.aim.Reads as aim-reads
 use Rattle.book.proofs.no_lengths.Reads as no-lengths-reads
-use Rattle.form.proofs.empty_at.Reads as empty-at-reads
+use Rattle.places.proofs.empty_at.Reads as empty-at-reads
 use Rattle.image.proofs.length_of.Reads as length-of-reads
 
 sized : (s : tie.Start) → Sized (s .args .self)

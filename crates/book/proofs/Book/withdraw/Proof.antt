@@ -18,7 +18,7 @@ use Rattle.book.proofs.Book.withdraw.Reads as reads
 use Rattle.book.proofs.Book.withdraw.Lts as lts
 use Rattle.book.proofs.Book.aim.Reads as aim-reads
 use Rattle.book.proofs.Book.changed.Reads as changed-reads
-use Rattle.form.proofs.empty_at.Reads as empty-at-reads
+use Rattle.places.proofs.empty_at.Reads as empty-at-reads
 
 sized : (s : tie.Start) → Sized (s .args .self)
 sized s = record { terms-12 = search needs; cells-90 = search needs; changes-128 = search needs }

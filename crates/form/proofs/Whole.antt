@@ -1,0 +1,47 @@
+-- An open book's form, test by test.
+-- Assumes nothing.
+use Prim.Native.Nat.{ℕ, _*_, _≤_, _<_}
+use mathlib.Core.Path.{_≡_, refl, _∙_}
+use mathlib.Core.Bool.{Bool, true, false, _&&_}
+use mathlib.Core.List.{List}
+use lib.ListN.{length, drop}
+use lib.Dec.{leb}
+use borrow.Author.Tests.{eq-eqb, le-leb, lt-leb}
+use Rattle.paper.specs.Procedure.{PLACES, KEPT}
+use Rattle.paper.specs.Units.{inRange, allNear}
+use Rattle.paper.specs.Books.{Book}
+use Rattle.paper.specs.Form.{formed, takeable}
+use Rattle.image.specs.Lengths.{termsOf}
+use Rattle.image.specs.Places.{spots, placesOf}
+use Rattle.image.specs.Changes.{entries, zeros}
+use Rattle.image.proofs.Places.{length-spots}
+use Rattle.image.proofs.Changes.{length-entries}
+use Rattle.ranges.proofs.Laws.{both}
+
+module _ (t l : List ℕ) (k : ℕ) (ch : List ℕ) where
+  abbrev b : Book
+  b = record { terms = termsOf t; places = placesOf l; kept = entries k ch }
+
+  abbrev Near : Bool
+  Near = allNear (termsOf t) 0 (placesOf l)
+
+  abbrev Taken : Bool
+  Taken = takeable (termsOf t) (placesOf l) (entries k ch)
+
+  formed-is : k ≤ KEPT → inRange (termsOf t) && Near && Taken ≡ formed b
+  unfolding formed placesOf
+  formed-is h =
+      let n : leb (length (entries k ch)) KEPT ≡ true = rw (length-entries k ch) (le-leb k KEPT h) in
+      rw (eq-eqb (length (spots PLACES l)) PLACES (length-spots PLACES l), n)
+      (go (inRange (termsOf t)) Near)
+    where
+      go : (r n : Bool) → r && n && Taken ≡ r && true && n && true && Taken
+      go true true = refl
+      go true false = refl
+      go false n = refl
+
+  pub sound-many : KEPT < k → false ≡ leb k KEPT && (zeros (drop (k * 4) ch) && formed b)
+  sound-many h = rw (lt-leb k KEPT h)
+
+  pub sound-is : {u r n c : Bool} → k ≤ KEPT → u ≡ zeros (drop (k * 4) ch) → r ≡ inRange (termsOf t) → n ≡ Near → c ≡ Taken → u && (r && n && c) ≡ leb k KEPT && (zeros (drop (k * 4) ch) && formed b)
+  sound-is h unused range near back = rw (le-leb k KEPT h) (both unused (both (both range near) back ∙ formed-is h))

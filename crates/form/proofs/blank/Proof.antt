@@ -1,0 +1,26 @@
+use mathlib.Core.Path.{refl}
+use lib.Dec.{eqb}
+use Rattle.ranges.proofs.Laws.{both}
+use borrow.Author.Needs.{needs}
+use Rattle.form.proofs.blank.Statement.{statement}
+use Rattle.form.proofs.blank.Tie as tie
+use Rattle.form.proofs.blank.Reads as reads
+use Rattle.form.proofs.blank.Lts as lts
+use Rattle.form.proofs.zero_from.Reads as zero-from-reads
+
+zero-from-requires : tie.Need-zero-from-requires
+zero-from-requires c κs = search needs
+
+zero-from-requires-2 : tie.Need-zero-from-requires-2
+zero-from-requires-2 c κs = search needs
+
+zero-from-requires-3 : tie.Need-zero-from-requires-3
+zero-from-requires-3 c κs = search needs
+
+returns : tie.Need-returns
+returns c =
+    both {a = eqb (c .before .before .before .before .before .before .args .kept) 0} refl (both (c .before .before .before .before .zero-from .ensures) (both (c .before .before .zero-from2 .ensures) (c .zero-from3 .ensures)))
+
+pub blank-spec : {M : Type 1} → statement M
+blank-spec =
+    tie.close (tie.spec zero-from-requires zero-from-requires-2 zero-from-requires-3 returns)

@@ -1,0 +1,45 @@
+use Rattle.form.proofs.Whole.{sound-many, sound-is}
+use borrow.Author.Needs.{needs}
+use Rattle.form.proofs.sound.Statement.{statement}
+use Rattle.form.proofs.sound.Tie as tie
+use Rattle.form.proofs.sound.Reads as reads
+use Rattle.form.proofs.sound.Lts as lts
+use Rattle.form.proofs.changes_ok.Reads as changes-ok-reads
+use Rattle.form.proofs.zero_from.Reads as zero-from-reads
+use Rattle.places.proofs.all_near.Reads as all-near-reads
+use Rattle.ranges.proofs.in_range.Reads as in-range-reads
+
+returns : tie.Need-returns
+returns c =
+    sound-many _ _ _ _ (c .if1 .taken)
+
+mul-zero-from : tie.Need-mul-zero-from
+mul-zero-from c = search needs
+
+zero-from-requires : tie.Need-zero-from-requires
+zero-from-requires c κs = search needs
+
+in-range-requires : tie.Need-in-range-requires
+in-range-requires c κs = search needs
+
+all-near-requires : tie.Need-all-near-requires
+all-near-requires c κs = search needs
+
+changes-ok-requires : tie.Need-changes-ok-requires
+changes-ok-requires c κs = search needs
+
+returns-2 : tie.Need-returns-2
+returns-2 c =
+    sound-is _ _ _ _ (c .before .before .before .before .before .if1 .left) (c .before .before .before .zero-from .ensures) (c .before .before .in-range .ensures) (c .before .all-near .ensures) (c .changes-ok .ensures)
+
+pub sound-spec : {M : Type 1} → statement M
+sound-spec =
+    tie.close
+    (tie.spec
+    returns
+    mul-zero-from
+    zero-from-requires
+    in-range-requires
+    all-near-requires
+    changes-ok-requires
+    returns-2)

@@ -1,0 +1,69 @@
+-- What each turn of the loops over the places says.
+-- Assumes nothing.
+use Prim.Native.Nat.{ℕ, suc, _+_, _-_, _*_, _<_}
+use native.Mathlib.Omega.{arith}
+use mathlib.Core.Path.{_≡_, refl, ap}
+use mathlib.Core.Bool.{Bool, true, false}
+use mathlib.Core.List.{List, [], _∷_}
+use lib.ListN.{drop}
+use lib.Seq.{drop-drop, getD-drop}
+use Rattle.paper.specs.Procedure.{PLACES}
+use Rattle.paper.specs.Units.{Terms, Places, isEmpty, nearAt, allNear}
+use Rattle.paper.specs.TurnedAway.{some?}
+use Rattle.image.specs.Places.{spotAt, spots, placesOf}
+
+-- the places from p on
+
+module _ (cells : List ℕ) where
+  abbrev from : ℕ → Places
+  from p = spots (PLACES - p) (drop (p * 3) cells)
+
+  start : placesOf cells ≡ from 0
+  unfolding placesOf
+  start = refl
+
+  turn : (p : ℕ) → p < PLACES → from p ≡ spotAt cells (p * 3) ∷ from (p + 1)
+  unfolding spots
+  turn p h =
+      let e : PLACES - p ≡ suc (PLACES - (p + 1)) = omega arith in
+      let z : p * 3 + 0 ≡ p * 3 = omega arith in
+      let g : p * 3 + 3 ≡ (p + 1) * 3 = omega arith in
+      rw (e, getD-drop (p * 3) cells 0 0, getD-drop (p * 3) cells 1 0, getD-drop (p * 3) cells 2 0, drop-drop 3 (p * 3) cells, z, g)
+
+  over : (p : ℕ) → p ≡ PLACES → from p ≡ []
+  unfolding spots
+  over p e = rw e
+
+  abbrev pub nearFrom : Terms → ℕ → Bool
+  nearFrom t p = allNear t p (from p)
+
+  module _ (t : Terms) where
+    pub near-start : allNear t 0 (placesOf cells) ≡ nearFrom t 0
+    near-start = ap (allNear t 0) start
+
+    pub near-on : (p : ℕ) → p < PLACES → nearAt t p (spotAt cells (p * 3)) ≡ true → nearFrom t p ≡ nearFrom t (p + 1)
+    unfolding allNear
+    near-on p h e = let f : suc p ≡ p + 1 = omega arith in rw (turn p h, e, f)
+
+    pub near-stop : (p : ℕ) → p < PLACES → nearAt t p (spotAt cells (p * 3)) ≡ false → nearFrom t p ≡ false
+    unfolding allNear
+    near-stop p h e = rw (turn p h, e)
+
+    pub near-end : (p : ℕ) → p ≡ PLACES → nearFrom t p ≡ true
+    unfolding allNear
+    near-end p e = rw (over p e)
+
+  abbrev pub emptyFrom : ℕ → Bool
+  emptyFrom p = some? isEmpty (from p)
+
+  pub empty-start : some? isEmpty (placesOf cells) ≡ emptyFrom 0
+  empty-start = ap (some? isEmpty) start
+
+  pub empty-on : (p : ℕ) → p < PLACES → isEmpty (spotAt cells (p * 3)) ≡ false → emptyFrom p ≡ emptyFrom (p + 1)
+  empty-on p h e = rw (turn p h, e)
+
+  pub empty-stop : (p : ℕ) → p < PLACES → isEmpty (spotAt cells (p * 3)) ≡ true → emptyFrom p ≡ true
+  empty-stop p h e = rw (turn p h, e)
+
+  pub empty-end : (p : ℕ) → p ≡ PLACES → emptyFrom p ≡ false
+  empty-end p e = rw (over p e)

@@ -1,0 +1,81 @@
+-- How a test of words is one of lengths.
+-- Assumes nothing.
+use Prim.Native.Nat.{ℕ, zero, suc, _+_, _-_, _*_, _%_, _≤_, _<_}
+use native.Mathlib.Omega.{arith}
+use mathlib.Core.Path.{_≡_, refl, sym, ap, _∙_}
+use mathlib.Core.Bool.{Bool, true, false, _&&_}
+use mathlib.Core.Logic.{_⊎_, ⊎-elim}
+use mathlib.Core.List.{List}
+use lib.ListN.{getD}
+use lib.Dec.{leb, ltb}
+use lib.IntN.{ℤ, pos, negsuc, natAbs, _-ℤ_, subℕ}
+use borrow.Author.Tests.{lt-ltb, le-ltb, le-leb, lt-leb}
+use Rattle.integers.specs.Diff.{sub-ge, sub-lt, ≤-or-<}
+use Rattle.paper.specs.Units.{Terms, onEarth, inRange, from1To, upTo, within, near, pointOf}
+use Rattle.image.specs.Lengths.{len, triple, tripleAt, termsOf}
+use Rattle.image.proofs.Lengths.{point-at, len-minus, len-pos}
+
+abbrev Z : ℕ
+Z = 1000000000000
+
+-- two tests that are made both
+pub both : {a b c d : Bool} → a ≡ b → c ≡ d → a && c ≡ b && d
+both e f = rw (e, f)
+
+one-no : (n w : ℕ) → w ≤ Z → false ≡ from1To n (len w)
+unfolding len
+one-no n w h =
+    ⊎-elim
+    (λ (k : Z ≤ w). let e : w - Z ≡ 0 = omega arith in rw (sub-ge w Z k, e))
+    (λ (k : w < Z). rw (sub-lt w Z k))
+    (≤-or-< w Z)
+
+one-most : (n w : ℕ) → Z < w → leb w (Z + n) ≡ from1To n (len w)
+one-most n w h =
+    rw (len-pos w (omega arith), le-leb 1 (w - Z) (omega arith))
+    (⊎-elim
+    (λ (k : w ≤ Z + n). rw (le-leb w (Z + n) k, le-leb (w - Z) n (omega arith)))
+    (λ (k : Z + n < w). rw (lt-leb w (Z + n) k, lt-leb (w - Z) n (omega arith)))
+    (≤-or-< (Z + n) w))
+
+pub one-is : (n w : ℕ) → ltb Z w && leb w (Z + n) ≡ from1To n (len w)
+one-is n w =
+    ⊎-elim
+    (λ (h : w ≤ Z). rw (le-ltb Z w h) (one-no n w h))
+    (λ (h : Z < w). rw (lt-ltb Z w h) (one-most n w h))
+    (≤-or-< Z w)
+
+pub close-less : (n a b : ℕ) → b < a → leb (a - b) n ≡ upTo n (len b -ℤ len a)
+close-less n a b h = let e : suc (a - suc b) ≡ a - b = omega arith in rw (len-minus b a, sub-lt b a h, e)
+
+pub close-more : (n a b : ℕ) → a ≤ b → leb (b - a) n ≡ upTo n (len b -ℤ len a)
+close-more n a b h = rw (len-minus b a, sub-ge b a h)
+
+-- from the length 0
+length-is : (w : ℕ) → subℕ w Z ≡ len w
+unfolding len
+length-is w = refl
+
+pub from-zero : (n w : ℕ) → upTo n (len w -ℤ len Z) ≡ upTo n (len w)
+from-zero n w = ap (upTo n) (len-minus w Z ∙ length-is w)
+
+pub earth : (x y h : ℕ) → within 100000000000 (triple Z Z Z) (triple x y h) ≡ onEarth (triple x y h)
+unfolding within onEarth
+earth x y h = both (both (from-zero 100000000000 x) (from-zero 100000000000 y)) (from-zero 100000000000 h)
+
+module _ (t : List ℕ) where
+  abbrev l : ℕ → ℤ
+  l i = len (getD t i 0)
+
+  and-four : (a b c d : Bool) → a && (b && c && d) ≡ a && b && c && d
+  and-four true b c d = refl
+  and-four false b c d = refl
+
+  pub range-is : from1To 500000 (l 0) && upTo 500000 (l 1) && from1To 10000 (l 2) && from1To 10000 (l 3) && from1To 10000 (l 4) && from1To 10000 (l 5) && (onEarth (tripleAt t 6) && onEarth (tripleAt t 9) && within 500000 (tripleAt t 6) (tripleAt t 9)) ≡ inRange (termsOf t)
+  unfolding inRange termsOf
+  range-is = and-four (from1To 500000 (l 0) && upTo 500000 (l 1) && from1To 10000 (l 2) && from1To 10000 (l 3) && from1To 10000 (l 4) && from1To 10000 (l 5)) _ _ _
+
+  pub near-at-point : (x y h p : ℕ) → within 100000 (tripleAt t (6 + p % 2 * 3)) (triple x y h) ≡ near (termsOf t) (pointOf p) (triple x y h)
+  near-at-point x y h p =
+      let k : p % 2 + 1 - 1 ≡ p % 2 = omega arith in
+      ap (λ v. within 100000 v (triple x y h)) (sym (point-at t (p % 2 + 1) (omega arith) (omega arith) ∙ ap (λ (n : ℕ). tripleAt t (6 + n * 3)) k))

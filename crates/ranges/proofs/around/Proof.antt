@@ -1,0 +1,29 @@
+use Rattle.paper.specs.Units.{within}
+use Rattle.ranges.proofs.Laws.{both}
+use borrow.Author.Needs.{needs}
+use Rattle.ranges.proofs.around.Statement.{statement}
+use Rattle.ranges.proofs.around.Tie as tie
+use Rattle.ranges.proofs.around.Reads as reads
+use Rattle.ranges.proofs.around.Lts as lts
+use Rattle.ranges.proofs.close.Reads as close-reads
+
+-- src/lib.rt:35:5
+close-requires : tie.Need-close-requires
+close-requires c κs = search needs
+
+-- src/lib.rt:35:23
+close-requires-2 : tie.Need-close-requires-2
+close-requires-2 c κs = search needs
+
+-- src/lib.rt:35:41
+close-requires-3 : tie.Need-close-requires-3
+close-requires-3 c κs = search needs
+
+-- src/lib.rt:32:1
+returns : tie.Need-returns
+unfolding within
+returns c =
+    both (both (c .before .before .close .ensures) (c .before .close2 .ensures)) (c .close3 .ensures)
+
+pub around-spec : {M : Type 1} → statement M
+around-spec = tie.close (tie.spec close-requires close-requires-2 close-requires-3 returns)

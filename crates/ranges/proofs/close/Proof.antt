@@ -1,0 +1,23 @@
+use native.Mathlib.Omega.{arith}
+use mathlib.Core.Path.{_≡_, sym, _∙_}
+use Prim.Native.Nat.{ℕ, _+_, _*_, _-_, _≤_, _<_}
+use borrow.Author.Needs.{needs}
+use Rattle.ranges.proofs.Laws.{close-less, close-more}
+use Rattle.ranges.proofs.close.Statement.{statement}
+use Rattle.ranges.proofs.close.Tie as tie
+use Rattle.ranges.proofs.close.Reads as reads
+use Rattle.ranges.proofs.close.Lts as lts
+
+sub-result : tie.Need-sub-result
+sub-result c = search needs
+
+returns : tie.Need-returns
+returns c =
+    close-less _ _ _ (c .if1 .taken)
+
+returns-2 : tie.Need-returns-2
+returns-2 c =
+    close-more _ _ _ (c .if1 .left)
+
+pub close-spec : {M : Type 1} → statement M
+close-spec = tie.close (tie.spec sub-result returns returns-2)

@@ -1,0 +1,18 @@
+use Rattle.ranges.proofs.Laws.{one-is}
+use borrow.Author.Needs.{needs}
+use Rattle.ranges.proofs.one_to.Statement.{statement}
+use Rattle.ranges.proofs.one_to.Tie as tie
+use Rattle.ranges.proofs.one_to.Reads as reads
+use Rattle.ranges.proofs.one_to.Lts as lts
+
+-- src/lib.rt:18:24
+add-result : tie.Need-add-result
+add-result c = search needs
+
+-- src/lib.rt:14:1
+returns : tie.Need-returns
+returns c =
+    one-is _ _
+
+pub one-to-spec : {M : Type 1} → statement M
+one-to-spec = tie.close (tie.spec add-result returns)

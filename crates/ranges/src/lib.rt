@@ -1,0 +1,72 @@
+// The ranges of lengths, as tests of words: the terms, and a reading near its point. Each test is the paper's test of what the words mean.
+ghost use mathlib.Core.Path.{_≡_};
+ghost use mathlib.Core.Bool.{_&&_};
+ghost use Prim.Native.Nat.{_≤_};
+ghost use lib.IntN.{_-ℤ_};
+ghost use Rattle.paper.specs.Units.{from1To, upTo, onEarth, within, inRange, near, pointOf};
+ghost use Rattle.image.specs.Lengths.{len, triple, tripleAt, termsOf};
+use paper::Procedure;
+
+// The word of the length 0.
+const ZERO: u64 = 1000000000000;
+
+// A length from 1 to n.
+fn one_to(n: u64, w: u64) -> bool
+    requires { ⌜ n ≤ 1000000000000 ⌝ }
+    ensures { λ r. ⌜ r ≡ from1To n (len w) ⌝ }
+{
+    (w > ZERO) & (w <= ZERO + n)
+}
+
+// Two lengths at most n apart.
+fn close(n: u64, a: u64, b: u64) -> bool
+    ensures { λ r. ⌜ r ≡ upTo n (len b -ℤ len a) ⌝ }
+{
+    if b < a {
+        return a - b <= n;
+    }
+    b - a <= n
+}
+
+// On each axis at most n from a point.
+fn around(n: u64, ax: u64, ay: u64, ah: u64, x: u64, y: u64, h: u64) -> bool
+    ensures { λ r. ⌜ r ≡ within n (triple ax ay ah) (triple x y h) ⌝ }
+{
+    close(n, ax, x) & close(n, ay, y) & close(n, ah, h)
+}
+
+// The approximate values of the two points.
+fn points_ok(t: &[u64; 12]) -> bool
+    ensures { λ r. ⌜ r ≡ (onEarth (tripleAt (now (t .entry)) 6) && onEarth (tripleAt (now (t .entry)) 9) && within 500000 (tripleAt (now (t .entry)) 6) (tripleAt (now (t .entry)) 9)) ⌝ }
+{
+    let x = t[6];
+    let y = t[7];
+    let h = t[8];
+    let x2 = t[9];
+    let y2 = t[10];
+    let h2 = t[11];
+    around(100000000000, ZERO, ZERO, ZERO, x, y, h)
+        & around(100000000000, ZERO, ZERO, ZERO, x2, y2, h2)
+        & around(500000, x, y, h, x2, y2, h2)
+}
+
+// Every term in its range.
+pub fn in_range(t: &[u64; 12]) -> bool
+    ensures { λ r. ⌜ r ≡ inRange (termsOf (now (t .entry))) ⌝ }
+{
+    one_to(500000, t[0])
+        & close(500000, ZERO, t[1])
+        & one_to(10000, t[2])
+        & one_to(10000, t[3])
+        & one_to(10000, t[4])
+        & one_to(10000, t[5])
+        & points_ok(t)
+}
+
+// A reading near its point, for the place with that number.
+pub fn near(t: &[u64; 12], place: usize, x: u64, y: u64, h: u64) -> bool
+    ensures { λ r. ⌜ r ≡ near (termsOf (now (t .entry))) (pointOf place) (triple x y h) ⌝ }
+{
+    let k = 6 + place % Procedure::POINTS * 3;
+    around(100000, t[k], t[k + 1], t[k + 2], x, y, h)
+}
