@@ -16,12 +16,14 @@ use Rattle.image.specs.Lengths.{len, tripleAt, termsOf}
 use Rattle.image.specs.Places.{placesOf}
 use Rattle.image.specs.Ready.{Ready}
 use Rattle.image.proofs.Lengths.{len-pos, len-difference}
-use Rattle.screen.specs.Named.{wordsFrom, mostPassing, distance, height}
+use Rattle.screen.specs.Named.{wordsFrom, Near, qOf, mostPassing, distance, height}
 use Rattle.screen.proofs.Limits.{squared, passes-up-to, most-le}
 
--- the words of one axis differ by at most 700,000
-abbrev pub Near : List ℕ → ℕ → ℕ → Type 0
-Near l m a = (getD l (m + (3 + a)) 0 ≤ getD l (m + a) 0 + 700000) × (getD l (m + a) 0 ≤ getD l (m + (3 + a)) 0 + 700000) × (getD l (m + (3 + a)) 0 ≤ 1100000100000)
+-- q, from the differences
+pub q-from-is : (l : List ℕ) (m dx dy : ℕ) → dx ≡ natAbs (len (getD l (m + 3) 0) -ℤ len (getD l m 0)) → dy ≡ natAbs (len (getD l (m + 4) 0) -ℤ len (getD l (m + 1) 0))
+    → dx * dx + dy * dy ≡ qOf l m
+unfolding qOf tripleAt
+q-from-is l m dx dy ex ey = let e : m + 3 + 1 ≡ m + 4 = omega arith in rw (e, ex, ey)
 
 -- D* as a number, and the greatest difference that passes
 pub most-small : (t l : List ℕ) → Ready t l → (most : ℕ) → most ≡ mostPassing (termsOf t .screenXY) → getD t 0 0 - 1000000000000 + most < 1000000
@@ -55,20 +57,13 @@ module _ (t l : List ℕ) (r : Ready t l) (i j : ℕ) (lo : 1 ≤ i) (hi : i ≤
       let n₄ = rw g₂ at (r .points (3 + a) (omega arith)) in
       (omega arith, omega arith, omega arith)
 
-  pub bounds-x : (getD l (m + 3) 0 ≤ getD l m 0 + 700000) × (getD l m 0 ≤ getD l (m + 3) 0 + 700000)
-  bounds-x = let e : m + 0 ≡ m = omega arith in let b = rw e at (bounds 0 (omega arith)) in (b .0, b .1)
-
-  pub distance-is : (dx dy most : ℕ) (b : Bool)
-      → dx ≡ natAbs (len (getD l (m + 3) 0) -ℤ len (getD l m 0))
-      → dy ≡ natAbs (len (getD l (m + 4) 0) -ℤ len (getD l (m + 1) 0))
-      → most ≡ mostPassing (termsOf t .screenXY)
-      → b ≡ ltb most (natAbs (pos (nearestOf (dx * dx + dy * dy)) -ℤ pos (getD t 0 0 - 1000000000000)))
+  pub distance-is : (n most : ℕ) (b : Bool) → n ≡ qOf l m → most ≡ mostPassing (termsOf t .screenXY)
+      → b ≡ ltb most (natAbs (pos (nearestOf n) -ℤ pos (getD t 0 0 - 1000000000000)))
       → b ≡ suspicious (termsOf t) (placesOf l) (distance i j)
-  unfolding suspicious distanceOff D q tripleAt termsOf
-  distance-is dx dy most b ex ey em eb =
-      let e : m + 3 + 1 ≡ m + 4 = omega arith in
+  unfolding suspicious distanceOff D q qOf termsOf
+  distance-is n most b en em eb =
       let low : 1000000000000 ≤ getD t 0 0 = omega (arith, r .distance) in
-      rw (at-one, at-two, e, len-pos (getD t 0 0) low, eb, em, ex, ey) (passes-up-to _ _)
+      rw (at-one, at-two, len-pos (getD t 0 0) low, eb, em, en) (passes-up-to _ _)
 
   pub height-is : (d : ℕ) (b : Bool) → getD l (m + 2) 0 ≤ getD l (m + 5) 0 + 1000000000000
       → d ≡ natAbs (len (getD l (m + 5) 0 + 1000000000000 - getD l (m + 2) 0) -ℤ len (getD t 1 0))

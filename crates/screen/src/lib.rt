@@ -10,7 +10,7 @@ ghost use Rattle.paper.specs.Screening.{square, passes, suspicious, firstSuspec
 ghost use Rattle.image.specs.Lengths.{len, termsOf};
 ghost use Rattle.image.specs.Places.{placesOf};
 ghost use Rattle.image.specs.Ready.{Ready, Between};
-ghost use Rattle.screen.specs.Named.{wordsFrom, mostPassing, distance, height, foundOf};
+ghost use Rattle.screen.specs.Named.{wordsFrom, Near, qOf, mostPassing, distance, height, foundOf};
 use image::ZERO;
 use paper::Procedure;
 
@@ -73,6 +73,16 @@ fn further(q: u64, about: u64, most: u64) -> bool
     true
 }
 
+// q of the set whose words start at m.
+fn q_from(cells: &[u64; 90], m: usize) -> u64
+    requires { ⌜ (m + 5 < 90) × Near (now cells) m 0 × Near (now cells) m 1 ⌝ }
+    ensures { λ r. ⌜ r ≡ qOf (now (cells .entry)) m ⌝ }
+{
+    let dx = apart(cells[m + 3], cells[m]);
+    let dy = apart(cells[m + 4], cells[m + 1]);
+    dx * dx + dy * dy
+}
+
 // Whether the distance of a set is suspect: further from D* than the greatest difference that passes.
 fn distance_suspect(
     terms: &[u64; 12],
@@ -85,9 +95,8 @@ fn distance_suspect(
     ensures { λ r. ⌜ r ≡ suspicious (termsOf (now (terms .entry))) (placesOf (now (cells .entry))) (distance series set) ⌝ }
 {
     let m = words_from(series, set);
-    let dx = apart(cells[m + 3], cells[m]);
-    let dy = apart(cells[m + 4], cells[m + 1]);
-    further(dx * dx + dy * dy, terms[DISTANCE] - ZERO, most)
+    let q = q_from(cells, m);
+    further(q, terms[DISTANCE] - ZERO, most)
 }
 
 // Whether a difference is beyond the limit of a screening length.

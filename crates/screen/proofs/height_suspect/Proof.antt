@@ -3,7 +3,8 @@ use Prim.Native.Nat.{_+_, _≤_}
 use native.Mathlib.Omega.{arith}
 use lib.ListN.{getD}
 use borrow.Author.Needs.{needs}
-use Rattle.screen.proofs.Sets.{Near, bounds, height-is}
+use Rattle.screen.specs.Named.{Near}
+use Rattle.screen.proofs.Sets.{bounds, height-is}
 use Rattle.screen.proofs.height_suspect.Statement.{statement}
 use Rattle.screen.proofs.height_suspect.Tie as tie
 
