@@ -23,8 +23,9 @@ use Rattle.image.proofs.Lengths.{length-terms, words-terms}
 use Rattle.image.proofs.Places.{length-cells, length-spots, cells-spots, spots-cells}
 use Rattle.image.proofs.Changes.{length-changes, length-entries, changes-entries, entries-changes, zeros-all, zeros-replicate, zeros-rest}
 use Rattle.image.proofs.Bounds.{terms-back, places-short, kept-short}
+use Rattle.form.specs.Whole.{blank, sound, wordsForm}
 use Rattle.book.specs.declared.Book.{Book}
-use Rattle.book.specs.Meaning.{bookOf, openOf, meant, blank, sound, bookForm, seen}
+use Rattle.book.specs.Meaning.{bookOf, openOf, meant, bookForm, seen}
 
 -- the arrays of a Book have these lengths
 pub record Sized (b : Book) : Type 0 where
@@ -53,7 +54,7 @@ pub record Sound (b : Book) : Type 0 where
   pub formed : formed (openOf b) ≡ true
 
 pub form-sound : (b : Book) → bookForm b ≡ true → (b .opened ≡ 0 → ⊥) → Sound b
-unfolding bookForm sound
+unfolding bookForm wordsForm sound openOf
 form-sound b e f =
     let o = eqb (b .opened) 1 in
     let k = leb (b .kept) KEPT in
@@ -78,7 +79,7 @@ open-book b s o =
     (changes-entries KEPT (b .kept) (b .changes) (s .changes-128) (o .few) (rw (mul-comm 4 (b .kept)) (o .rest)))
 
 closed-book : (b : Book) → Sized b → bookForm b ≡ true → b .opened ≡ 0 → bookOf none ≡ b
-unfolding bookOf bookForm blank
+unfolding bookOf bookForm wordsForm blank
 closed-book b s e z =
     let k = eqb (b .kept) 0 in
     let t = zeros (b .terms) in
@@ -134,7 +135,7 @@ meant-image (some a) e = ap some (open-back a (parts a e))
 
 -- LAW: and they are in form
 pub form-image : (o : Option paper.Book) → formedO o ≡ true → bookForm (bookOf o) ≡ true
-unfolding bookForm bookOf blank sound
+unfolding bookForm wordsForm bookOf blank sound openOf
 form-image none e = rw (zeros-replicate 12, zeros-replicate 90, zeros-replicate 128)
 form-image (some a) e =
     let g = parts a e in
@@ -174,19 +175,3 @@ seen-some b o s e = go (bookForm b) refl e
         let m : meant b ≡ o = cc in
         (subst (λ (p : Option paper.Book). formedO p ≡ true) m (form-formed b f), subst (λ (p : Option paper.Book). bookOf p ≡ b) m (form-book b s f))
     go false f h = let z : _≡_ {A = ℕ} 0 1 = cc in absurd (omega arith)
-
--- ---- the form by `opened`
-
-module _ (b : Book) where
-  pub blank-form : {r : Bool} → b .opened ≡ 0 → r ≡ blank b → r ≡ bookForm b
-  unfolding bookForm
-  blank-form o e = rw (eq-eqb (b .opened) 0 o) e
-
-  module _ (f : b .opened ≡ 0 → ⊥) where
-    pub sound-form : {r : Bool} → b .opened ≡ 1 → r ≡ sound b → r ≡ bookForm b
-    unfolding bookForm
-    sound-form o e = rw (ne-eqb (b .opened) 0 f, eq-eqb (b .opened) 1 o) e
-
-    pub no-form : (b .opened ≡ 1 → ⊥) → false ≡ bookForm b
-    unfolding bookForm
-    no-form g = rw (ne-eqb (b .opened) 0 f, ne-eqb (b .opened) 1 g)

@@ -1,16 +1,15 @@
 -- What the words of a book mean, and when they are in form: exactly the words of a closed book, or of an open one in the paper's form.
 -- (proofs/Meaning.antt: `seen b ≡ some o` says that o is in form and that b has its words; no other book in form has them.)
-use Prim.Native.Nat.{ℕ, _*_}
-use mathlib.Core.Bool.{Bool, cond, _&&_}
+use mathlib.Core.Bool.{Bool, cond}
 use mathlib.Core.Option.{Option, none, some, Option·map}
-use lib.ListN.{length, drop, replicate}
-use lib.Dec.{eqb, leb}
+use lib.ListN.{length, replicate}
+use lib.Dec.{eqb}
 use Rattle.paper.specs.Procedure.{KEPT}
 use Rattle.paper.specs.Books as paper
-use Rattle.paper.specs.Form.{formed}
 use Rattle.image.specs.Lengths.{termsOf, termWords}
 use Rattle.image.specs.Places.{placesOf, cellsOf}
-use Rattle.image.specs.Changes.{entries, changesOf, zeros}
+use Rattle.image.specs.Changes.{entries, changesOf}
+use Rattle.form.specs.Whole.{wordsForm}
 use Rattle.book.specs.declared.Book.{Book}
 
 -- the words of a book: a closed one is all zero
@@ -32,16 +31,8 @@ openOf b = record { terms = termsOf (b .terms); places = placesOf (b .cells); ke
 unfoldable pub meant : Book → Option paper.Book
 meant b = cond (eqb (b .opened) 0) none (some (openOf b))
 
--- a closed book is empty
-unfoldable pub blank : Book → Bool
-blank b = eqb (b .kept) 0 && (zeros (b .terms) && (zeros (b .cells) && zeros (b .changes)))
-
--- an open one is in the paper's form, and words that are not used are 0
-unfoldable pub sound : Book → Bool
-sound b = leb (b .kept) KEPT && (zeros (drop (b .kept * 4) (b .changes)) && formed (openOf b))
-
 unfoldable pub bookForm : Book → Bool
-bookForm b = cond (eqb (b .opened) 0) (blank b) (eqb (b .opened) 1 && sound b)
+bookForm b = wordsForm (b .opened) (b .terms) (b .cells) (b .kept) (b .changes)
 
 -- the book that the words stand for; none where they are not in form
 unfoldable pub seen : Book → Option (Option paper.Book)

@@ -53,13 +53,7 @@ pub fn in_form(b: Book) -> bool
     let terms = b.terms;
     let cells = b.cells;
     let changes = b.changes;
-    if b.opened == 0 {
-        return form::blank(&terms, &cells, b.kept, &changes);
-    }
-    if b.opened == 1 {
-        return form::sound(&terms, &cells, b.kept, &changes);
-    }
-    false
+    form::in_form(b.opened, &terms, &cells, b.kept, &changes)
 }
 
 // ---- one change

@@ -1,4 +1,4 @@
--- An open book's form, test by test.
+-- A book's form, test by test.
 -- Assumes nothing.
 use Prim.Native.Nat.{ℕ, _*_, _≤_, _<_}
 use mathlib.Core.Path.{_≡_, refl, _∙_}
@@ -6,7 +6,7 @@ use mathlib.Core.Bool.{Bool, true, false, _&&_}
 use mathlib.Core.List.{List}
 use lib.ListN.{length, drop}
 use lib.Dec.{leb}
-use borrow.Author.Tests.{eq-eqb, le-leb, lt-leb}
+use borrow.Author.Tests.{eq-eqb, ne-eqb, le-leb, lt-leb}
 use Rattle.paper.specs.Procedure.{PLACES, KEPT}
 use Rattle.paper.specs.Units.{inRange, allNear}
 use Rattle.paper.specs.Books.{Book}
@@ -17,6 +17,7 @@ use Rattle.image.specs.Changes.{entries, zeros}
 use Rattle.image.proofs.Places.{length-spots}
 use Rattle.image.proofs.Changes.{length-entries}
 use Rattle.ranges.proofs.Laws.{both}
+use Rattle.form.specs.Whole.{blank, sound, wordsForm}
 
 module _ (t l : List ℕ) (k : ℕ) (ch : List ℕ) where
   abbrev b : Book
@@ -40,8 +41,24 @@ module _ (t l : List ℕ) (k : ℕ) (ch : List ℕ) where
       go true false = refl
       go false n = refl
 
-  pub sound-many : KEPT < k → false ≡ leb k KEPT && (zeros (drop (k * 4) ch) && formed b)
+  pub sound-many : KEPT < k → false ≡ sound t l k ch
+  unfolding sound
   sound-many h = rw (lt-leb k KEPT h)
 
-  pub sound-is : {u r n c : Bool} → k ≤ KEPT → u ≡ zeros (drop (k * 4) ch) → r ≡ inRange (termsOf t) → n ≡ Near → c ≡ Taken → u && (r && n && c) ≡ leb k KEPT && (zeros (drop (k * 4) ch) && formed b)
+  pub sound-is : {u r n c : Bool} → k ≤ KEPT → u ≡ zeros (drop (k * 4) ch) → r ≡ inRange (termsOf t) → n ≡ Near → c ≡ Taken → u && (r && n && c) ≡ sound t l k ch
+  unfolding sound
   sound-is h unused range near back = rw (le-leb k KEPT h) (both unused (both (both range near) back ∙ formed-is h))
+
+  module _ (o : ℕ) where
+    pub form-closed : {r : Bool} → o ≡ 0 → r ≡ blank t l k ch → r ≡ wordsForm o t l k ch
+    unfolding wordsForm
+    form-closed z e = rw (eq-eqb o 0 z) e
+
+    module _ (f : o ≡ 0 → ⊥) where
+      pub form-open : {r : Bool} → o ≡ 1 → r ≡ sound t l k ch → r ≡ wordsForm o t l k ch
+      unfolding wordsForm
+      form-open z e = rw (ne-eqb o 0 f, eq-eqb o 1 z) e
+
+      pub form-neither : (o ≡ 1 → ⊥) → false ≡ wordsForm o t l k ch
+      unfolding wordsForm
+      form-neither g = rw (ne-eqb o 0 f, ne-eqb o 1 g)

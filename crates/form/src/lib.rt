@@ -1,14 +1,12 @@
 // The form of a book's words: the kept changes, and a book as a whole. Each test is the paper's test of what the words mean.
 ghost use mathlib.Core.Path.{_≡_};
-ghost use mathlib.Core.Bool.{_&&_};
 ghost use Prim.Native.Nat.{_*_, _≤_};
 ghost use lib.ListN.{length, drop};
-ghost use lib.Dec.{eqb, leb};
-ghost use Rattle.paper.specs.Procedure.{KEPT};
-ghost use Rattle.paper.specs.Form.{fits, takeable, formed};
+ghost use Rattle.paper.specs.Form.{fits, takeable};
 ghost use Rattle.image.specs.Lengths.{termsOf};
 ghost use Rattle.image.specs.Places.{spotOf, placesOf};
 ghost use Rattle.image.specs.Changes.{change, entries, zeros};
+ghost use Rattle.form.specs.Whole.{blank, sound, wordsForm};
 use paper::Procedure;
 
 // Words that are not used.
@@ -78,15 +76,15 @@ pub fn changes_ok(t: &[u64; 12], cells: &[u64; 90], kept: u64, changes: &[u64; 1
 // ---- a book as a whole
 
 // The words of a closed book.
-pub fn blank(terms: &[u64; 12], cells: &[u64; 90], kept: u64, changes: &[u64; 128]) -> bool
-    ensures { λ r. ⌜ r ≡ (eqb kept 0 && (zeros (now (terms .entry)) && (zeros (now (cells .entry)) && zeros (now (changes .entry))))) ⌝ }
+fn blank(terms: &[u64; 12], cells: &[u64; 90], kept: u64, changes: &[u64; 128]) -> bool
+    ensures { λ r. ⌜ r ≡ blank (now (terms .entry)) (now (cells .entry)) kept (now (changes .entry)) ⌝ }
 {
     (kept == 0) & (zero_from(terms, 0) & (zero_from(cells, 0) & zero_from(changes, 0)))
 }
 
 // The words of an open book in form.
-pub fn sound(terms: &[u64; 12], cells: &[u64; 90], kept: u64, changes: &[u64; 128]) -> bool
-    ensures { λ r. ⌜ r ≡ (leb kept KEPT && (zeros (drop (kept * 4) (now (changes .entry))) && formed (record { terms = termsOf (now (terms .entry)); places = placesOf (now (cells .entry)); kept = entries kept (now (changes .entry)) }))) ⌝ }
+fn sound(terms: &[u64; 12], cells: &[u64; 90], kept: u64, changes: &[u64; 128]) -> bool
+    ensures { λ r. ⌜ r ≡ sound (now (terms .entry)) (now (cells .entry)) kept (now (changes .entry)) ⌝ }
 {
     if kept > Procedure::KEPT as u64 {
         return false;
@@ -95,4 +93,23 @@ pub fn sound(terms: &[u64; 12], cells: &[u64; 90], kept: u64, changes: &[u64; 12
         & (ranges::in_range(terms)
             & places::all_near(terms, cells)
             & changes_ok(terms, cells, kept, changes))
+}
+
+// Whether a book's words are in form.
+pub fn in_form(
+    opened: u64,
+    terms: &[u64; 12],
+    cells: &[u64; 90],
+    kept: u64,
+    changes: &[u64; 128],
+) -> bool
+    ensures { λ r. ⌜ r ≡ wordsForm opened (now (terms .entry)) (now (cells .entry)) kept (now (changes .entry)) ⌝ }
+{
+    if opened == 0 {
+        return blank(terms, cells, kept, changes);
+    }
+    if opened == 1 {
+        return sound(terms, cells, kept, changes);
+    }
+    false
 }

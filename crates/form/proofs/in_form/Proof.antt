@@ -1,0 +1,29 @@
+use Rattle.form.proofs.Whole.{form-closed, form-open, form-neither}
+use borrow.Author.Needs.{needs}
+use Rattle.form.proofs.in_form.Statement.{statement}
+use Rattle.form.proofs.in_form.Tie as tie
+use Rattle.form.proofs.in_form.Reads as reads
+use Rattle.form.proofs.in_form.Lts as lts
+use Rattle.form.proofs.blank.Reads as blank-reads
+use Rattle.form.proofs.sound.Reads as sound-reads
+
+blank-requires : tie.Need-blank-requires
+blank-requires c κs = search needs
+
+returns : tie.Need-returns
+returns c =
+    form-closed _ _ _ _ _ (c .before .if1 .taken) (c .blank .ensures)
+
+sound-requires : tie.Need-sound-requires
+sound-requires c κs = search needs
+
+returns-2 : tie.Need-returns-2
+returns-2 c =
+    form-open _ _ _ _ _ (c .before .before .if1 .left) (c .before .if2 .taken) (c .sound .ensures)
+
+returns-3 : tie.Need-returns-3
+returns-3 c =
+    form-neither _ _ _ _ _ (c .before .if1 .left) (c .if2 .left)
+
+pub in-form-spec : {M : Type 1} → statement M
+in-form-spec = tie.close (tie.spec blank-requires returns sound-requires returns-2 returns-3)
