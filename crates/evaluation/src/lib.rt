@@ -135,7 +135,7 @@ pub fn passes(terms: &[u64; 12], cells: &[u64; 90]) -> bool
     requires { ⌜ Formed (now terms) (now cells) ⌝ }
     ensures { λ r. ⌜ r ≡ onList (some (sightOf (now (terms .entry)) (now (cells .entry)))) ⌝ }
 {
-    if form::any_empty(cells) {
+    if places::any_empty(cells) {
         return false;
     }
     let found = screen::first_suspect(terms, cells);

@@ -2,7 +2,7 @@
 use mathlib.Core.Path.{sym, _∙_}
 use borrow.Author.Needs.{needs}
 use Rattle.form.proofs.Laws.{known}
-use Rattle.form.proofs.Meets.{ready}
+use Rattle.places.proofs.Meets.{ready}
 use Rattle.evaluation.proofs.Evaluating.{short-off, suspect-off, clear-on}
 use Rattle.evaluation.proofs.passes.Statement.{statement}
 use Rattle.evaluation.proofs.passes.Tie as tie
