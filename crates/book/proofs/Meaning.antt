@@ -1,6 +1,6 @@
 -- Words and books in form go together: each book in form has its words, and words in form are those of the one book that they mean.
 -- Assumes nothing.
-use Prim.Native.Nat.{ℕ, _*_, _≤_, _<_}
+use Prim.Native.Nat.{ℕ, _*_, _≤_}
 use native.Mathlib.Omega.{arith}
 use native.Mathlib.Nat.{mul-comm}
 use mathlib.Core.Path.{_≡_, refl, sym, ap, _∙_, subst}
@@ -9,18 +9,17 @@ use mathlib.Core.Option.{Option, none, some}
 use mathlib.Core.List.{List}
 use lib.ListN.{length, drop, replicate, length-replicate}
 use lib.Dec.{eqb, leb}
-use borrow.Author.Tests.{eq-eqb, ne-eqb, eqb-true, eqb-false, leb-true, le-leb, lt-leb}
+use borrow.Author.Tests.{eq-eqb, ne-eqb, eqb-true, eqb-false, leb-true, le-leb}
 use Rattle.paper.specs.Procedure.{PLACES, KEPT}
-use Rattle.paper.specs.Units.{Terms, Places, inRange, allNear}
+use Rattle.paper.specs.Units.{Terms, Places}
 use Rattle.paper.specs.Books as paper
-use Rattle.paper.specs.Form.{formed, formedO, takeable}
+use Rattle.paper.specs.Form.{formed, formedO}
 use Rattle.paper.proofs.Tests.{and-left, and-right}
 use Rattle.paper.proofs.Form.{Formed, parts}
-use Rattle.image.specs.Lengths.{termsOf, termWords}
 use Rattle.image.specs.Places.{spots, placesOf, cellsOf}
 use Rattle.image.specs.Changes.{entries, changesOf, zeros}
 use Rattle.image.proofs.Lengths.{length-terms, words-terms}
-use Rattle.image.proofs.Places.{length-cells, length-spots, cells-spots, spots-cells}
+use Rattle.image.proofs.Places.{length-cells, cells-spots, spots-cells}
 use Rattle.image.proofs.Changes.{length-changes, length-entries, changes-entries, entries-changes, zeros-all, zeros-replicate, zeros-rest}
 use Rattle.image.proofs.Bounds.{terms-back, places-short, kept-short}
 use Rattle.form.specs.Whole.{blank, sound, wordsForm}

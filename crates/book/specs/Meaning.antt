@@ -1,7 +1,7 @@
 -- What the words of a book mean, and when they are in form: exactly the words of a closed book, or of an open one in the paper's form.
 -- (proofs/Meaning.antt: `seen b ≡ some o` says that o is in form and that b has its words; no other book in form has them.)
 use mathlib.Core.Bool.{Bool, cond}
-use mathlib.Core.Option.{Option, none, some, Option·map}
+use mathlib.Core.Option.{Option, none, some}
 use lib.ListN.{length, replicate}
 use lib.Dec.{eqb}
 use Rattle.paper.specs.Procedure.{KEPT}

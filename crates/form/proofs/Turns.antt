@@ -1,26 +1,21 @@
 -- What each turn of the form's loops says.
 -- Assumes nothing.
-use Prim.Native.Nat.{ℕ, zero, suc, _+_, _-_, _*_, _≤_, _<_}
+use Prim.Native.Nat.{ℕ, suc, _+_, _-_, _*_, _≤_, _<_}
 use native.Mathlib.Omega.{arith}
 use native.Mathlib.Numerals.{add-one}
-use mathlib.Core.Path.{_≡_, refl, sym, ap, _∙_}
-use mathlib.Core.Logic.{_⊎_, ⊎-elim}
-use mathlib.Core.Bool.{Bool, true, false, not, _&&_, _||_}
-use mathlib.Core.Option.{none, some}
+use mathlib.Core.Path.{_≡_}
+use mathlib.Core.Bool.{Bool, true, false, not, _&&_}
 use mathlib.Core.List.{List, [], _∷_}
-use lib.ListN.{length, getD, set, drop, drop-of-length-le}
+use lib.ListN.{length, getD, drop, drop-of-length-le}
 use lib.Seq.{drop-cons, drop-drop, getD-drop}
-use lib.Dec.{eqb, ltb}
 use borrow.Author.Tests.{lt-ltb, le-ltb, ne-eqb}
-use Rattle.integers.specs.Diff.{≤-or-<}
 use Rattle.words.specs.Paste.{pasted}
 use Rattle.paper.specs.Procedure.{PLACES}
-use Rattle.paper.specs.Units.{Terms, Spot, Places, isEmpty, nearAt, allNear}
-use Rattle.paper.specs.TurnedAway.{some?}
+use Rattle.paper.specs.Units.{Terms, Places, isEmpty, nearAt}
 use Rattle.paper.specs.Books.{Change, make}
 use Rattle.paper.specs.Form.{fits, takeable}
 use Rattle.paper.proofs.Form.{fit-reaches}
-use Rattle.image.specs.Places.{allZero, spotOf, spotAt, spots, placesOf}
+use Rattle.image.specs.Places.{allZero, spotOf, spotAt, placesOf}
 use Rattle.image.specs.Changes.{change, entries, zeros}
 use Rattle.image.proofs.Places.{place-at, spots-set, empty-spot}
 

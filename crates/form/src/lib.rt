@@ -10,7 +10,7 @@ ghost use Rattle.form.specs.Whole.{blank, sound, wordsForm};
 use paper::Procedure;
 
 // Words that are not used.
-pub fn zero_from(l: &[u64], from: usize) -> bool
+fn zero_from(l: &[u64], from: usize) -> bool
     requires { ⌜ from ≤ length (now l) ⌝ }
     ensures { λ r. ⌜ r ≡ zeros (drop from (now (l .entry))) ⌝ }
 {
@@ -63,7 +63,7 @@ fn takeable(t: &[u64; 12], cells: [u64; 90], kept: u64, changes: &[u64; 128]) ->
 }
 
 // The same; the places are copied only where a change is kept.
-pub fn changes_ok(t: &[u64; 12], cells: &[u64; 90], kept: u64, changes: &[u64; 128]) -> bool
+fn changes_ok(t: &[u64; 12], cells: &[u64; 90], kept: u64, changes: &[u64; 128]) -> bool
     requires { ⌜ kept ≤ 32 ⌝ }
     ensures { λ r. ⌜ r ≡ takeable (termsOf (now (t .entry))) (placesOf (now (cells .entry))) (entries kept (now (changes .entry))) ⌝ }
 {

@@ -5,16 +5,15 @@ use native.Mathlib.Omega.{arith}
 use native.Mathlib.Nat.{zero-add}
 use mathlib.Core.Path.{_≡_, refl, sym, ap, _∙_, subst}
 use mathlib.Core.Logic.{_⊎_, ⊎-elim}
-use mathlib.Core.Bool.{Bool, true, false, cond, _&&_, _||_}
-use mathlib.Core.Option.{none, some}
+use mathlib.Core.Bool.{Bool, true, false, _&&_, _||_}
+use mathlib.Core.Option.{none}
 use mathlib.Core.List.{List, [], _∷_}
 use lib.ListN.{length, getD}
-use lib.Dec.{leb, eqb}
-use lib.IntN.{ℤ, pos, negsuc, natAbs, _-ℤ_, subℕ}
+use lib.IntN.{natAbs, _-ℤ_}
 use borrow.Author.Tests.{leb-true}
 use Rattle.integers.specs.Diff.{sub-ge, sub-lt, ≤-or-<, abs-sub-range}
 use Rattle.paper.specs.Procedure.{PLACES}
-use Rattle.paper.specs.Units.{Terms, from1To, upTo, onEarth, within, inRange, isEmpty, Places, nearAt, allNear, reading, standing}
+use Rattle.paper.specs.Units.{from1To, upTo, onEarth, within, inRange, isEmpty, Places, nearAt, allNear, reading, standing}
 use Rattle.paper.specs.TurnedAway.{some?}
 use Rattle.paper.proofs.Tests.{and-left, and-right, among}
 use Rattle.paper.proofs.History.{near-at}

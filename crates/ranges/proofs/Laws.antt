@@ -1,6 +1,6 @@
 -- How a test of words is one of lengths.
 -- Assumes nothing.
-use Prim.Native.Nat.{ℕ, zero, suc, _+_, _-_, _*_, _%_, _≤_, _<_}
+use Prim.Native.Nat.{ℕ, suc, _+_, _-_, _*_, _%_, _≤_, _<_}
 use native.Mathlib.Omega.{arith}
 use mathlib.Core.Path.{_≡_, refl, sym, ap, _∙_}
 use mathlib.Core.Bool.{Bool, true, false, _&&_}
@@ -8,10 +8,10 @@ use mathlib.Core.Logic.{_⊎_, ⊎-elim}
 use mathlib.Core.List.{List}
 use lib.ListN.{getD}
 use lib.Dec.{leb, ltb}
-use lib.IntN.{ℤ, pos, negsuc, natAbs, _-ℤ_, subℕ}
+use lib.IntN.{ℤ, _-ℤ_, subℕ}
 use borrow.Author.Tests.{lt-ltb, le-ltb, le-leb, lt-leb}
 use Rattle.integers.specs.Diff.{sub-ge, sub-lt, ≤-or-<}
-use Rattle.paper.specs.Units.{Terms, onEarth, inRange, from1To, upTo, within, near, pointOf}
+use Rattle.paper.specs.Units.{onEarth, inRange, from1To, upTo, within, near, pointOf}
 use Rattle.image.specs.Lengths.{len, triple, tripleAt, termsOf}
 use Rattle.image.proofs.Lengths.{point-at, len-minus, len-pos}
 

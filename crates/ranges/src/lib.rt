@@ -1,4 +1,5 @@
 // The ranges of lengths, as tests of words: the terms, and a reading near its point. Each test is the paper's test of what the words mean.
+// Tests are joined by `&`: all of them are made, so that a function has one way out and a short proof.
 ghost use mathlib.Core.Path.{_≡_};
 ghost use mathlib.Core.Bool.{_&&_};
 ghost use Prim.Native.Nat.{_≤_};
@@ -35,7 +36,7 @@ fn around(n: u64, ax: u64, ay: u64, ah: u64, x: u64, y: u64, h: u64) -> bool
     close(n, ax, x) & close(n, ay, y) & close(n, ah, h)
 }
 
-// The approximate values of the two points.
+// The approximate values of the two points, and how far these are apart.
 fn points_ok(t: &[u64; 12]) -> bool
     ensures { λ r. ⌜ r ≡ (onEarth (tripleAt (now (t .entry)) 6) && onEarth (tripleAt (now (t .entry)) 9) && within 500000 (tripleAt (now (t .entry)) 6) (tripleAt (now (t .entry)) 9)) ⌝ }
 {
