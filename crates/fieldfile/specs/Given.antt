@@ -1,30 +1,15 @@
 -- What the code says of a file, against what the reader of files gives.
-use Prim.Native.Nat.{ℕ, _≤_}
+use Prim.Native.Nat.{ℕ}
 use mathlib.Core.Path.{_≡_}
 use mathlib.Core.Bool.{Bool, true, false}
 use mathlib.Core.Option.{Option, none, some}
 use mathlib.Core.List.{List, []}
-use lib.ListN.{length, drop, replicate}
-use Rattle.words.specs.Paste.{pasted}
-use Rattle.paper.specs.Units.{Terms, Spot, Places}
+use lib.ListN.{replicate}
+use Rattle.paper.specs.Units.{Terms, Places}
 use Rattle.image.specs.Lengths.{termWords}
-use Rattle.image.specs.Places.{spotWords, cellsOf}
+use Rattle.image.specs.Places.{cellsOf}
 use Rattle.decimals.specs.Reader.{Parsed, got, bad}
-use Rattle.fieldfile.specs.declared.Counts.{Counts}
-use Rattle.fieldfile.specs.declared.Counts.the-variants.{Of, Bad}
 use Rattle.fieldfile.specs.declared.Contents.{Contents}
-
--- a count as it is
-abbrev pub Count : ℕ → ℕ → Type 0
-Count v m = m ≡ v
-
--- of a place: m lines are left, and its words are laid into the cells from base on
-abbrev pub Placed : (cells : List ℕ) (base : ℕ) (last : List ℕ) → Spot × ℕ → ℕ → Type 0
-Placed cells base last v m = (m ≡ v .1) × (last ≡ pasted cells base (spotWords (v .0)))
-
-pub record Tabled (s : List ℕ) (r : Counts) (p : Parsed (ℕ × ℕ × ℕ)) : Type 0 where
-  pub good : (a b c n : ℕ) → r ≡ Of a b c n → (p ≡ got (a, b, c) (drop n s)) × (n ≤ length s)
-  pub fail : r ≡ Bad → p ≡ bad
 
 -- yes: the words are those of what was read
 pub record Formed (r : Bool) (ts cells : List ℕ) (p : Parsed (Terms × Places)) : Type 0 where

@@ -1,0 +1,63 @@
+-- The reader of the table of contents, step by step, as the code goes.
+-- Assumes nothing.
+use Prim.Native.Nat.{ℕ, _-_, _<_, _≤_}
+use mathlib.Core.Path.{_≡_, refl, sym, _∙_}
+use mathlib.Core.List.{List}
+use native.Mathlib.Omega.{arith}
+use borrow.Author.Tests.{le-leb, lt-leb}
+use lib.ListN.{length, drop}
+use lib.IntN.{ℤ, pos, negsuc}
+use Rattle.image.specs.Lengths.{word}
+use Rattle.decimals.specs.Reader.{Parsed, got, bad}
+use Rattle.table.specs.Reader.{upTo10}
+use Rattle.table.specs.Given.{Tabled}
+use Rattle.table.specs.declared.Counts.the-variants.{Of, Bad}
+
+-- ---- counts
+
+module _ (v : ℤ) (z : ℕ) (r : List ℕ) (e : z ≡ word v) where
+  pub count-low : z < 1_000_000_000_000 → upTo10 v r ≡ bad
+  unfolding upTo10 word
+  count-low = go v e
+    where
+      go : (v : ℤ) → z ≡ word v → z < 1_000_000_000_000 → upTo10 v r ≡ bad
+      go (pos n) e h = absurd (omega arith)
+      go (negsuc n) e h = refl
+
+  pub count-high : 1_000_000_000_010 < z → upTo10 v r ≡ bad
+  unfolding upTo10 word
+  count-high = go v e
+    where
+      go : (v : ℤ) → z ≡ word v → 1_000_000_000_010 < z → upTo10 v r ≡ bad
+      go (pos n) e h = rw (lt-leb n 10 (omega arith))
+      go (negsuc n) e h = refl
+
+  pub count-is : 1_000_000_000_000 ≤ z → z ≤ 1_000_000_000_010 → upTo10 v r ≡ got (z - 1_000_000_000_000) r
+  unfolding upTo10 word
+  count-is = go v e
+    where
+      go : (v : ℤ) → z ≡ word v → 1_000_000_000_000 ≤ z → z ≤ 1_000_000_000_010 → upTo10 v r ≡ got (z - 1_000_000_000_000) r
+      go (pos n) e h k = let f : z - 1_000_000_000_000 ≡ n = omega arith in rw (f, le-leb n 10 (omega arith))
+      go (negsuc n) e h k = absurd (omega arith)
+
+-- ---- the table of contents
+
+pub yes-table : {s : List ℕ} {a b c n : ℕ} {p : Parsed (ℕ × ℕ × ℕ)} (u v w : ℕ) → p ≡ got (u, v, w) (drop n s) → a ≡ u → b ≡ v → c ≡ w → n ≤ length s → Tabled s (Of a b c n) p
+yes-table {s} {a} {b} {c} {n} {p} u v w e ea eb ec h = record { good = same; fail = never }
+  where
+    same : (i j k m : ℕ) → Of a b c n ≡ Of i j k m → (p ≡ got (i, j, k) (drop m s)) × (m ≤ length s)
+    same i j k m f =
+        let x : u ≡ i = sym ea ∙ cc in
+        let y : v ≡ j = sym eb ∙ cc in
+        let z : w ≡ k = sym ec ∙ cc in
+        let q : n ≡ m = cc in
+        rw (← x, ← y, ← z, ← q) (e, h)
+
+    never : Of a b c n ≡ Bad → p ≡ bad
+    never f = let z : _≡_ {A = ℕ} 0 1 = cc in absurd (omega arith)
+
+pub not-table : {s : List ℕ} {p : Parsed (ℕ × ℕ × ℕ)} → p ≡ bad → Tabled s Bad p
+not-table {s} {p} e = record { good = never; fail = λ f. e }
+  where
+    never : (a b c n : ℕ) → Bad ≡ Of a b c n → (p ≡ got (a, b, c) (drop n s)) × (n ≤ length s)
+    never a b c n f = let z : _≡_ {A = ℕ} 0 1 = cc in absurd (omega arith)
