@@ -21,9 +21,10 @@ use Rattle.evaluation.specs.Evaluating.{judgementOf}
 use Rattle.evaluation.specs.declared.Judgement.{Judgement}
 use Rattle.figures.specs.declared.Judged as judged
 use Rattle.figures.specs.Judging.{AllHeld}
-use Rattle.report.specs.declared.Axis.{Axis}
-use Rattle.report.specs.Given as given
-use Rattle.report.specs.Text.{axisLine, verdictText, refusalNumbers, refusalText, reportText, valueText, reportOf}
+use Rattle.verdicts.specs.declared.Axis.{Axis}
+use Rattle.verdicts.specs.Given as given
+use Rattle.verdicts.specs.Text.{axisLine, verdictText}
+use Rattle.report.specs.Text.{refusalNumbers, refusalText, reportText, valueText, reportOf}
 
 -- at most the greatest number that a report prints
 abbrev small : ℕ → Bool

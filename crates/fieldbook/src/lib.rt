@@ -13,7 +13,7 @@ use book::Book;
 use book::Step;
 use evaluation::Evaluated;
 use evaluation::Judgement;
-use report::Axis;
+use verdicts::Axis;
 use report::Printed;
 
 // An open book with these terms and readings, and nothing to take back.

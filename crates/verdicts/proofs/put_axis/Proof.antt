@@ -1,4 +1,4 @@
--- `report::put_axis`: three pieces, one after another.
+-- `verdicts::put_axis`: three pieces, one after another.
 -- Assumes nothing.
 use Prim.Native.Nat.{ℕ}
 use borrow.Author.Needs.{needs}
@@ -8,11 +8,11 @@ use mathlib.Core.List.{List, [], _∷_}
 use lib.IntN.{pos}
 use Rattle.decimals.specs.Ascii.{ascii}
 use Rattle.decimals.specs.Numbers.{line}
-use Rattle.report.specs.Text.{WITHIN, BEYOND, axisLine}
-use Rattle.report.specs.declared.Axis.{Axis}
-use Rattle.report.proofs.Pieces.{first-fits, second-fits, two-fit, third-fits, all-three}
-use Rattle.report.proofs.put_axis.Statement.{statement}
-use Rattle.report.proofs.put_axis.Tie as tie
+use Rattle.verdicts.specs.Text.{WITHIN, BEYOND, axisLine}
+use Rattle.verdicts.specs.declared.Axis.{Axis}
+use Rattle.verdicts.proofs.Pieces.{first-fits, second-fits, two-fit, third-fits, all-three}
+use Rattle.verdicts.proofs.put_axis.Statement.{statement}
+use Rattle.verdicts.proofs.put_axis.Tie as tie
 
 abbrev verdict : Axis → List ℕ
 verdict a = cond (a .within) WITHIN BEYOND

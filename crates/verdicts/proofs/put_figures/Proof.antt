@@ -1,12 +1,12 @@
--- `report::put_figures`: a line of two numbers.
+-- `verdicts::put_figures`: a line of two numbers.
 -- Assumes nothing.
 use borrow.Author.Needs.{needs}
 use mathlib.Core.Path.{ap, sym}
 use mathlib.Core.List.{[], _∷_}
 use Rattle.decimals.specs.Numbers.{line}
-use Rattle.report.proofs.Pieces.{put-as, room-as, lens-up}
-use Rattle.report.proofs.put_figures.Statement.{statement}
-use Rattle.report.proofs.put_figures.Tie as tie
+use Rattle.verdicts.proofs.Pieces.{put-as, room-as, lens-up}
+use Rattle.verdicts.proofs.put_figures.Statement.{statement}
+use Rattle.verdicts.proofs.put_figures.Tie as tie
 
 add-t6 : tie.Need-add-t6
 add-t6 c = search needs

@@ -1,4 +1,4 @@
--- `report::put_verdicts`: two lines, and the last by both flags.
+-- `verdicts::put_verdicts`: two lines, and the last by both flags.
 -- Assumes nothing.
 use Prim.Native.Nat.{ℕ}
 use borrow.Author.Needs.{needs}
@@ -6,12 +6,12 @@ use mathlib.Core.Path.{_∙_}
 use mathlib.Core.Bool.{cond, _&&_}
 use mathlib.Core.List.{List}
 use Rattle.decimals.specs.Ascii.{ascii}
-use Rattle.report.specs.Text.{XY, H, PASS, FAIL, axisLine, verdictText}
-use Rattle.report.specs.Given.{judged}
-use Rattle.report.specs.declared.Axis.{Axis}
-use Rattle.report.proofs.Pieces.{first-fits, second-fits, two-fit, third-fits, all-three, put-as, room-as, both-chosen, both-passed, starts}
-use Rattle.report.proofs.put_verdicts.Statement.{statement}
-use Rattle.report.proofs.put_verdicts.Tie as tie
+use Rattle.verdicts.specs.Text.{XY, H, PASS, FAIL, axisLine, verdictText}
+use Rattle.verdicts.specs.Given.{judged}
+use Rattle.verdicts.specs.declared.Axis.{Axis}
+use Rattle.verdicts.proofs.Pieces.{first-fits, second-fits, two-fit, third-fits, all-three, put-as, room-as, both-chosen, both-passed, starts}
+use Rattle.verdicts.proofs.put_verdicts.Statement.{statement}
+use Rattle.verdicts.proofs.put_verdicts.Tie as tie
 
 abbrev lineXY : Axis → List ℕ
 lineXY a = axisLine XY (judged a)

@@ -1,9 +1,9 @@
--- `report::put_either`: by the flag.
+-- `verdicts::put_either`: by the flag.
 -- Assumes nothing.
 use borrow.Author.Needs.{needs}
-use Rattle.report.proofs.Pieces.{put-as, room-as, chosen, passed}
-use Rattle.report.proofs.put_either.Statement.{statement}
-use Rattle.report.proofs.put_either.Tie as tie
+use Rattle.verdicts.proofs.Pieces.{put-as, room-as, chosen, passed}
+use Rattle.verdicts.proofs.put_either.Statement.{statement}
+use Rattle.verdicts.proofs.put_either.Tie as tie
 
 put-fixed-requires : tie.Need-put-fixed-requires
 put-fixed-requires c κs =
