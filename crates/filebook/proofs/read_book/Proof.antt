@@ -2,14 +2,14 @@ use mathlib.Core.Path.{_≡_, ap, _∙_}
 use Rattle.form.proofs.Laws.{known}
 use Rattle.book.specs.declared.Book.{Book}
 use Rattle.book.specs.Steps.{step}
-use Rattle.fieldbook.proofs.Ways.{unread, was-read, way-form, way-terms, way-far, way-book}
+use Rattle.filebook.proofs.Ways.{unread, was-read, way-form, way-terms, way-far, way-book}
 use borrow.Author.Needs.{needs}
-use Rattle.fieldbook.proofs.read_book.Statement.{statement}
-use Rattle.fieldbook.proofs.read_book.Tie as tie
-use Rattle.fieldbook.proofs.read_book.Reads as reads
-use Rattle.fieldbook.proofs.read_book.Lts as lts
-use Rattle.fieldbook.proofs.filled.Reads as filled-reads
-use Rattle.fieldbook.proofs.refused.Reads as refused-reads
+use Rattle.filebook.proofs.read_book.Statement.{statement}
+use Rattle.filebook.proofs.read_book.Tie as tie
+use Rattle.filebook.proofs.read_book.Reads as reads
+use Rattle.filebook.proofs.read_book.Lts as lts
+use Rattle.filebook.proofs.filled.Reads as filled-reads
+use Rattle.filebook.proofs.refused.Reads as refused-reads
 use Rattle.fieldfile.proofs.read.Reads as read-reads
 use Rattle.form.proofs.all_near.Reads as all-near-reads
 use Rattle.form.proofs.in_range.Reads as in-range-reads
