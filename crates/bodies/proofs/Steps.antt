@@ -1,76 +1,38 @@
 -- The reader of the bodies, step by step, as the code goes.
 -- Assumes nothing.
-use Prim.Native.Nat.{ℕ, zero, suc, _+_, _-_, _*_, _<_, _≤_}
+use Prim.Native.Nat.{ℕ, suc, _+_, _-_, _*_, _<_, _≤_}
 use mathlib.Core.Path.{_≡_, refl, sym, _∙_, ap}
-use mathlib.Core.Option.{none, some}
-use mathlib.Core.List.{List, [], _∷_, _++_, append-assoc, append-nil, map}
+use mathlib.Core.List.{List, [], _∷_, _++_, append-assoc, append-nil}
 use native.Mathlib.Omega.{arith}
 use native.Mathlib.Numerals.{add-one}
-use lib.ListN.{length, drop, set, length-append}
+use lib.ListN.{length, drop, length-append}
 use Rattle.words.specs.Paste.{pasted}
 use Rattle.words.proofs.Paste.{pasted-nil, pasted-then}
 use Rattle.paper.specs.Units.{Spot, Places}
-use Rattle.image.specs.Lengths.{word}
 use Rattle.image.specs.Places.{spotWords, cellsOf}
 use Rattle.image.proofs.Places.{length-cells, length-spot}
-use Rattle.decimals.specs.Reader.{got, bad, fixed, ahead, numbers}
-use Rattle.decimals.specs.Given.{Got, Gives, Nothing, Laid}
+use Rattle.decimals.specs.Reader.{got, bad, ahead}
+use Rattle.decimals.specs.Given.{Got, Gives, Laid}
 use Rattle.decimals.specs.declared.Read.the-variants.{At}
 use Rattle.decimals.proofs.Steps.{then-got, then-bad, yes-at, on, done}
-use Rattle.decimals.proofs.Exact.{no, then-only, ahead-only, numbers-only}
 use Rattle.lines.proofs.Steps.{ahead-none, ahead-on, ahead-bad, ahead-end}
-use Rattle.lines.proofs.Rows.{pasted-set}
-use Rattle.bodies.specs.Reader.{tag, tripleFrom, placed, spot, spots, series, bodies}
-use Rattle.bodies.specs.Given.{Placed}
-use Rattle.bodies.proofs.Lists.{triple-from, spot-words, cells-append, cells-then}
+use Rattle.fieldfile.specs.Reader.{spot, spots, series, bodies}
+use Rattle.fieldfile.proofs.Exact.{spots-only}
+use Rattle.spots.specs.Given.{Placed}
 
--- ---- a place
+-- ---- cells of places
 
-pub three-set : (r : List ℕ) (b x y z : ℕ) → b + 3 ≤ length r → set (set (set r b x) (b + 1) y) (b + 2) z ≡ pasted r b (x ∷ y ∷ z ∷ [])
-three-set r b x y z h =
-    let e : set r b x ≡ pasted r b (x ∷ []) = rw (pasted-nil r b) at (pasted-set r b [] b x (omega arith) (omega arith)) in
-    let f : set (pasted r b (x ∷ [])) (b + 1) y ≡ pasted r b (x ∷ y ∷ []) = pasted-set r b (x ∷ []) (b + 1) y (omega arith) (omega arith) in
-    rw (e, f) (pasted-set r b (x ∷ y ∷ []) (b + 2) z (omega arith) (omega arith))
+cells-append : (xs ys : Places) → cellsOf (xs ++ ys) ≡ cellsOf xs ++ cellsOf ys
+unfolding cellsOf
+cells-append [] ys = refl
+cells-append (v ∷ xs) ys = rw (cells-append xs ys) (simp append-assoc)
 
-module _ (s : List ℕ) (at k left : ℕ) (cells : List ℕ) (base : ℕ) (last : List ℕ) where
-  empty : (m : ℕ) → at ≤ length s → last ≡ pasted cells base (0 ∷ 0 ∷ 0 ∷ []) → spot k left (drop at s) ≡ got (none, m) (drop at s)
-      → Gives (Placed cells base last) s at (At m at) (spot k left (drop at s))
-  unfolding spotWords
-  empty m h e f = yes-at (record { value = (none, m); reads = f; holds = (refl, e); from = omega arith; to = h })
-
-  pub spot-none : at ≤ length s → left ≡ 0 → last ≡ pasted cells base (0 ∷ 0 ∷ 0 ∷ []) → Gives (Placed cells base last) s at (At 0 at) (spot k left (drop at s))
-  unfolding spot
-  spot-none h f e = empty 0 h e (rw f)
-
-  module _ (p : left ≡ 0 → ⊥) where
-    is-placed : (n : ℕ) → left ≡ suc n → spot k left (drop at s) ≡ placed n (drop at s) (fixed (tag k) (drop at s))
-    unfolding spot
-    is-placed n e = rw e
-
-    pub spot-skip : at ≤ length s → last ≡ pasted cells base (0 ∷ 0 ∷ 0 ∷ []) → fixed (tag k) (drop at s) ≡ bad
-        → Gives (Placed cells base last) s at (At left at) (spot k left (drop at s))
-    unfolding placed
-    spot-skip h e f =
-        let n : suc (left - 1) ≡ left = omega arith in
-        empty left h e (is-placed (left - 1) (sym n) ∙ rw (f, n))
-
-    module _ {i m : ℕ} (g : Got Nothing s at i m (fixed (tag k) (drop at s))) where
-      pub spot-bad : numbers 3 (drop m s) ≡ bad → spot k left (drop at s) ≡ bad
-      unfolding placed
-      spot-bad f = is-placed (left - 1) (omega arith) ∙ rw (g .reads) (then-bad _ f)
-
-      pub spot-is : {j n : ℕ} → Got (Laid (map word) cells base last) s m j n (numbers 3 (drop m s))
-          → Gives (Placed cells base last) s at (At (left - 1) n) (spot k left (drop at s))
-      unfolding placed
-      spot-is {j} {n} f =
-          let l = numbers-only 3 (drop m s) (f .reads) in
-          yes-at (record {
-            value = (some (tripleFrom (f .value)), left - 1);
-            reads = is-placed (left - 1) (omega arith) ∙ rw (g .reads) (then-got _ (f .reads));
-            holds = (refl, f .holds ∙ ap (pasted cells base) (sym (spot-words (tripleFrom (f .value)) ∙ ap (map word) (triple-from (f .value) (l .1)))));
-            from = omega (arith, g .from, f .from);
-            to = f .to;
-          })
+-- a series after others
+cells-then : (cells mid last : List ℕ) (xs ys : Places) (base : ℕ) → base ≡ 3 * length xs → base + 3 * length ys ≤ length cells
+    → mid ≡ pasted cells 0 (cellsOf xs) → last ≡ pasted mid base (cellsOf ys) → last ≡ pasted cells 0 (cellsOf (xs ++ ys))
+cells-then cells mid last xs ys base e h p q =
+    q ∙ rw (p, cells-append xs ys)
+    (pasted-then cells 0 (cellsOf xs) base (cellsOf ys) (omega (arith, length-cells xs)) (omega (arith, length-cells ys)))
 
 -- ---- a series, after k of its places
 
@@ -148,14 +110,8 @@ module _ (s : List ℕ) (at count : ℕ) (cells₀ : List ℕ) (base : ℕ) wher
 
 -- ---- the three bodies
 
-pub spots-size : (n k m : ℕ) (l : List ℕ) {zs : Places} {r : List ℕ} → spots n k m l ≡ got zs r → length zs ≡ n
-unfolding spots
-spots-size zero k zero l {zs} e = let f : [] ≡ zs = cc in rw (← f)
-spots-size zero k (suc m) l e = no e
-spots-size (suc n) k m l e =
-    let i = then-only (spot k m l) _ e in
-    let j = ahead-only (i .0 .0 ∷ []) (spots n (suc k) (i .0 .1) (i .1)) (i .3) in
-    rw (j .2) (ap suc (spots-size n (suc k) (i .0 .1) (i .1) (j .1)))
+ten-places : (count : ℕ) (l : List ℕ) {xs : Places} {r : List ℕ} → series count l ≡ got xs r → length xs ≡ 10
+ten-places count l e = spots-only 10 0 count l (omega arith) e .1
 
 module _ (s : List ℕ) (at a b c : ℕ) (cells : List ℕ) where
   pub bodies-all : {c1 c2 c3 : List ℕ} {x y z i j n : ℕ} → length cells ≡ 90
@@ -165,9 +121,9 @@ module _ (s : List ℕ) (at a b c : ℕ) (cells : List ℕ) where
       → Gives (Laid cellsOf cells 0 c3) s at (At 0 n) (bodies a b c (drop at s))
   unfolding bodies
   bodies-all {c1} {c2} {c3} e f g h =
-      let p = spots-size 10 0 a (drop at s) (f .reads) in
-      let q = spots-size 10 0 b _ (g .reads) in
-      let r = spots-size 10 0 c _ (h .reads) in
+      let p = ten-places a (drop at s) (f .reads) in
+      let q = ten-places b _ (g .reads) in
+      let r = ten-places c _ (h .reads) in
       let m : c2 ≡ pasted cells 0 (cellsOf (f .value ++ g .value)) = cells-then cells c1 c2 (f .value) (g .value) 30 (omega arith) (omega arith) (f .holds) (g .holds) in
       let n : length (f .value ++ g .value) ≡ 20 = length-append (f .value) (g .value) ∙ omega arith in
       let o : c3 ≡ pasted cells 0 (cellsOf (f .value ++ g .value ++ h .value)) = cells-then cells c2 c3 (f .value ++ g .value) (h .value) 60 (omega arith) (omega arith) m (h .holds) in

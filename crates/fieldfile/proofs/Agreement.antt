@@ -19,9 +19,8 @@ use Rattle.decimals.specs.Ascii.{ascii}
 use Rattle.decimals.specs.Numbers.{numeral, Short, AllShort, line}
 use Rattle.decimals.specs.Reader.{Parsed, got, bad}
 use Rattle.decimals.proofs.Long.{long-most, long-line}
-use Rattle.bodies.specs.Reader.{tag}
 use Rattle.fieldfile.specs.Form.{termList, ofSeries, entry, body, lines, text, ShortSpot, ShortSpots, Printable, OfForm}
-use Rattle.fieldfile.specs.Reader.{whole, taken, readOf}
+use Rattle.fieldfile.specs.Reader.{tag, whole, taken, readOf}
 use Rattle.fieldfile.proofs.Lists.{length-series, all-series, lines-most, short-split3}
 use Rattle.fieldfile.proofs.Exact.{whole-back, whole-only, entry-tag, nested, text-nested}
 

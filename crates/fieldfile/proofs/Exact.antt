@@ -16,14 +16,9 @@ use Rattle.decimals.specs.Numbers.{numeral, AllShort, sepOf, line}
 use Rattle.decimals.specs.Reader.{Parsed, got, bad, fixed, field, ahead, numbers}
 use Rattle.decimals.proofs.Steps.{then-got}
 use Rattle.decimals.proofs.Exact.{no, then-only, ahead-only, fixed-only, fixed-back, field-only, field-back, numbers-only, numbers-back, digits-one}
-use Rattle.table.specs.Names.{CONTENTS, TERMS, SERIES1, SERIES2, SERIES3}
-use Rattle.table.specs.Reader.{upTo10, count, table}
-use Rattle.bodies.specs.Reader.{tag, tripleFrom, placed, spot, spots, series, bodies}
-use Rattle.bodies.proofs.Lists.{triple-from}
-use Rattle.bodies.proofs.Steps.{spots-size}
-use Rattle.fieldfile.specs.Form.{termList, ofSeries, entry, body, filled, lines, text, ShortSpot, ShortSpots, Printable}
-use Rattle.fieldfile.specs.Reader.{termsFrom, ends, whole}
-use Rattle.fieldfile.proofs.Lists.{terms-from, from-terms, length-series, all-series, first-series, second-series, third-series, short-split3, short-join3, lines-most}
+use Rattle.fieldfile.specs.Form.{CONTENTS, TERMS, SERIES1, SERIES2, SERIES3, termList, ofSeries, entry, body, filled, lines, text, ShortSpot, ShortSpots, Printable}
+use Rattle.fieldfile.specs.Reader.{tag, tripleFrom, placed, spot, spots, series, bodies, upTo10, count, table, termsFrom, ends, whole}
+use Rattle.fieldfile.proofs.Lists.{triple-from, terms-from, from-terms, length-series, all-series, first-series, second-series, third-series, short-split3, short-join3, lines-most}
 
 -- ---- a place
 
@@ -106,10 +101,10 @@ spot-only k left l v m r h = start left
             let n = numbers-only 3 t (i .2) in
             present left (i .0) t (i .1) (fixed-only (tag k) l p) (n .0) (n .1) (n .2) (i .3)
 
-spots-only : (n k m : ℕ) (l : List ℕ) {zs : Places} {r : List ℕ} → k + n ≤ 10 → spots n k m l ≡ got zs r
-    → (l ≡ body k zs ++ r) × ShortSpots zs × (m ≡ lines zs)
+pub spots-only : (n k m : ℕ) (l : List ℕ) {zs : Places} {r : List ℕ} → k + n ≤ 10 → spots n k m l ≡ got zs r
+    → (l ≡ body k zs ++ r) × (length zs ≡ n) × ShortSpots zs × (m ≡ lines zs)
 unfolding spots lines body ShortSpots
-spots-only zero k zero l {zs} {r} h e = let f : [] ≡ zs = cc in let g : l ≡ r = cc in rw (← f) (g, tt, refl)
+spots-only zero k zero l {zs} {r} h e = let f : [] ≡ zs = cc in let g : l ≡ r = cc in rw (← f) (g, refl, tt, refl)
 spots-only zero k (suc m) l h e = no e
 spots-only (suc n) k m l {zs} {r} h e =
     let i = then-only (spot k m l) _ e in
@@ -117,9 +112,9 @@ spots-only (suc n) k m l {zs} {r} h e =
     let q = spots-only n (suc k) (i .0 .1) (i .1) (omega arith) (j .1) in
     join (i .0 .0) (j .0) (i .0 .1) (i .1) (j .2) (spot-only k m l (i .0 .0) (i .0 .1) (i .1) (omega arith) (i .2)) q
   where
-    join : (v : Spot) (ws : Places) (left : ℕ) (t : List ℕ) → zs ≡ v ∷ ws → Was k m l v left t → (t ≡ body (suc k) ws ++ r) × ShortSpots ws × (left ≡ lines ws)
-        → (l ≡ body k zs ++ r) × ShortSpots zs × (m ≡ lines zs)
-    join v ws left t ez w q = rw ez (w .0 ∙ rw (q .0) (sym (append-assoc (entry k v) (body (suc k) ws) r)), (w .1, q .1), w .2 ∙ rw (q .2))
+    join : (v : Spot) (ws : Places) (left : ℕ) (t : List ℕ) → zs ≡ v ∷ ws → Was k m l v left t → (t ≡ body (suc k) ws ++ r) × (length ws ≡ n) × ShortSpots ws × (left ≡ lines ws)
+        → (l ≡ body k zs ++ r) × (length zs ≡ suc n) × ShortSpots zs × (m ≡ lines zs)
+    join v ws left t ez w q = rw ez (w .0 ∙ rw (q .0) (sym (append-assoc (entry k v) (body (suc k) ws) r)), ap suc (q .1), (w .1, q .2), w .2 ∙ rw (q .3))
 
 -- ---- the table of contents
 
@@ -214,15 +209,15 @@ bodies-only a b c l ps r e =
       zs = k .0;
       all = cc;
       is = x .0 ∙ ap (λ (t : List ℕ). body 0 (i .0) ++ t) (y .0 ∙ ap (λ (t : List ℕ). body 0 (j .0) ++ t) (z .0 ∙ ap (λ (t : List ℕ). body 0 (k .0) ++ t) (cc)));
-      ten1 = spots-size 10 0 a l (i .2);
-      ten2 = spots-size 10 0 b (i .1) (j .2);
-      ten3 = spots-size 10 0 c (j .1) (k .2);
-      short1 = x .1;
-      short2 = y .1;
-      short3 = z .1;
-      lines1 = x .2;
-      lines2 = y .2;
-      lines3 = z .2;
+      ten1 = x .1;
+      ten2 = y .1;
+      ten3 = z .1;
+      short1 = x .2;
+      short2 = y .2;
+      short3 = z .2;
+      lines1 = x .3;
+      lines2 = y .3;
+      lines3 = z .3;
     }
 
 -- ---- the file

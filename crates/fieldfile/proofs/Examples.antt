@@ -11,9 +11,7 @@ use Rattle.decimals.specs.Ascii.{ascii}
 use Rattle.decimals.specs.Numbers.{sepOf}
 use Rattle.decimals.specs.Reader.{then, fixed, stops, run, nonzero, number, field, ahead, numbers}
 use Rattle.decimals.proofs.Tables.{each-right}
-use Rattle.table.specs.Reader.{upTo10, count, table}
-use Rattle.bodies.specs.Reader.{placed, spot, spots, bodies}
-use Rattle.fieldfile.specs.Reader.{termsFrom, ends, whole, readOf}
+use Rattle.fieldfile.specs.Reader.{placed, spot, spots, bodies, upTo10, count, table, termsFrom, ends, whole, readOf}
 
 pub record Case : Type 0 where
   pub file : List ℕ

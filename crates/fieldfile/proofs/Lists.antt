@@ -1,39 +1,42 @@
 -- Lists that are taken apart and put together again.
 -- Assumes nothing.
-use Prim.Native.Nat.{ℕ, _+_, _-_, _*_, _≤_}
+use Prim.Native.Nat.{ℕ, zero, suc, _+_, _-_, _*_, _≤_}
 use mathlib.Core.Path.{_≡_, refl, sym, _∙_, ap}
 use mathlib.Core.Option.{none, some}
-use mathlib.Core.List.{List, [], _∷_, _++_, append-nil, map}
+use mathlib.Core.List.{List, [], _∷_, _++_}
 use native.Mathlib.Omega.{arith}
-use lib.ListN.{length, take, drop, take-append-drop, length-drop, drop-of-length-le}
-use lib.Seq.{take-all, length-take-le, take-at, drop-at, drop-drop}
+use lib.ListN.{length, take, drop, getD, take-append-drop, length-drop, drop-of-length-le}
+use lib.Seq.{drop-cons, take-all, length-take-le, take-at, drop-at, drop-drop}
 use lib.IntN.{ℤ, pos}
-use Rattle.words.specs.Paste.{pasted}
 use Rattle.paper.specs.Units.{Terms, Places, inOrder}
-use Rattle.image.specs.Lengths.{word, tripleWords, termWords}
-use Rattle.bodies.proofs.Lists.{elements, elements-drop}
 use Rattle.fieldfile.specs.Form.{termList, ofSeries, lines, ShortSpots}
-use Rattle.fieldfile.specs.Reader.{termsFrom}
+use Rattle.fieldfile.specs.Reader.{tripleFrom, termsFrom}
 
--- ---- the terms
+-- ---- a list by its elements
+
+-- n elements from i on
+elements : {A : Type 0} → (i n : ℕ) → List A → A → List A
+elements i zero l d = []
+elements i (suc n) l d = getD l i d ∷ elements (suc i) n l d
+
+elements-drop : {A : Type 0} (i n : ℕ) (l : List A) (d : A) → i + n ≡ length l → elements i n l d ≡ drop i l
+unfolding elements
+elements-drop i zero l d e = let h : length l ≤ i = omega arith in sym (drop-of-length-le l h)
+elements-drop i (suc n) l d e = rw (drop-cons l i d (omega arith), elements-drop (suc i) n l d (omega arith))
 
 pub terms-from : (zs : List ℤ) → length zs ≡ 12 → termList (termsFrom zs) ≡ zs
 unfolding elements termList termsFrom
 terms-from zs e = elements-drop 0 12 zs (pos 0) (omega arith)
 
+pub triple-from : (zs : List ℤ) → length zs ≡ 3 → tripleFrom zs .x ∷ tripleFrom zs .y ∷ tripleFrom zs .h ∷ [] ≡ zs
+unfolding elements
+triple-from zs e = elements-drop 0 3 zs (pos 0) (omega arith)
+
 pub from-terms : (t : Terms) → termsFrom (termList t) ≡ t
 unfolding termsFrom termList
 from-terms t = refl
 
-pub term-words : (t : Terms) → termWords t ≡ map word (termList t)
-unfolding termWords tripleWords termList
-term-words t = refl
-
 -- ---- the places of the three series
-
-pub pasted-all : (r xs : List ℕ) → length xs ≡ length r → pasted r 0 xs ≡ xs
-unfolding pasted
-pasted-all r xs e = let h : length r ≤ 0 + length xs = omega arith in rw (drop-of-length-le r h) (append-nil xs)
 
 module _ (l : Places) (n : length l ≡ 30) where
   pub length-series : (i : ℕ) → 1 ≤ i → i ≤ 3 → length (ofSeries i l) ≡ 10

@@ -7,8 +7,25 @@ use lib.ListN.{length, take, drop}
 use lib.IntN.{ℤ, pos}
 use Rattle.paper.specs.Procedure.{SETS, POINTS, PLACES}
 use Rattle.paper.specs.Units.{Terms, Spot, Places, inOrder, pointOf}
+use Rattle.decimals.specs.Ascii.{ascii}
 use Rattle.decimals.specs.Numbers.{AllShort, line}
-use Rattle.table.specs.Names.{CONTENTS, TERMS, SERIES1, SERIES2, SERIES3}
+
+-- ---- the fixed strings
+
+abbrev pub CONTENTS : List ℕ
+CONTENTS = ascii "CONTENTS 4\n"
+
+abbrev pub TERMS : List ℕ
+TERMS = ascii "TERMS 1\n"
+
+abbrev pub SERIES1 : List ℕ
+SERIES1 = ascii "SERIES1 "
+
+abbrev pub SERIES2 : List ℕ
+SERIES2 = ascii "SERIES2 "
+
+abbrev pub SERIES3 : List ℕ
+SERIES3 = ascii "SERIES3 "
 
 -- ---- the bodies
 

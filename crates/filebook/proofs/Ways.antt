@@ -18,8 +18,8 @@ use Rattle.image.specs.Places.{placesOf, cellsOf}
 use Rattle.image.specs.Changes.{changesOf}
 use Rattle.fieldfile.specs.Form.{Printable}
 use Rattle.fieldfile.specs.Reader.{readOf}
-use Rattle.fieldfile.specs.Given.{contentsOf}
-use Rattle.fieldfile.specs.declared.Contents.{Contents}
+use Rattle.contents.specs.Given.{contentsOf}
+use Rattle.contents.specs.declared.Contents.{Contents}
 use Rattle.fieldfile.proofs.Agreement.{read-only, terms-back, places-back}
 use Rattle.book.specs.Meaning.{bookOf}
 use Rattle.filebook.specs.FileBook.{bookRead, filledOf}

@@ -35,7 +35,7 @@ fn refused(refusal: u64) -> Step
 pub fn read_book(file: &[u8]) -> Step
     ensures { λ r. ⌜ r ≡ bookRead (readOf (now (file .entry))) ⌝ }
 {
-    let contents = fieldfile::read(file);
+    let contents = contents::read(file);
     let formed = contents.formed;
     let terms = contents.terms;
     let cells = contents.cells;

@@ -9,7 +9,7 @@ use lib.ListN.{length, drop}
 use lib.IntN.{ℤ, pos, negsuc}
 use Rattle.image.specs.Lengths.{word}
 use Rattle.decimals.specs.Reader.{Parsed, got, bad}
-use Rattle.table.specs.Reader.{upTo10}
+use Rattle.fieldfile.specs.Reader.{upTo10}
 use Rattle.table.specs.Given.{Tabled}
 use Rattle.table.specs.declared.Counts.the-variants.{Of, Bad}
 

@@ -2,7 +2,7 @@
 ghost use Prim.Native.Nat.{_≤_};
 ghost use lib.ListN.{length, drop};
 ghost use Rattle.decimals.specs.Given.{Gives};
-ghost use Rattle.table.specs.Reader.{count, table};
+ghost use Rattle.fieldfile.specs.Reader.{count, table};
 ghost use Rattle.table.specs.Given.{Count, Tabled};
 use decimals::Read;
 

@@ -3,7 +3,7 @@
 use borrow.Author.Needs.{needs}
 use mathlib.Core.Path.{_∙_}
 use Rattle.decimals.proofs.Steps.{not-at, then-got, then-bad}
-use Rattle.bodies.specs.Reader.{bodies}
+use Rattle.fieldfile.specs.Reader.{bodies}
 use Rattle.bodies.proofs.Steps.{bodies-all}
 use Rattle.bodies.proofs.bodies_at.Statement.{statement}
 use Rattle.bodies.proofs.bodies_at.Tie as tie

@@ -10,7 +10,7 @@ use Rattle.filebook.proofs.read_book.Reads as reads
 use Rattle.filebook.proofs.read_book.Lts as lts
 use Rattle.filebook.proofs.filled.Reads as filled-reads
 use Rattle.filebook.proofs.refused.Reads as refused-reads
-use Rattle.fieldfile.proofs.read.Reads as read-reads
+use Rattle.contents.proofs.read.Reads as read-reads
 use Rattle.form.proofs.all_near.Reads as all-near-reads
 use Rattle.form.proofs.in_range.Reads as in-range-reads
 

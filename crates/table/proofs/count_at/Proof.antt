@@ -2,7 +2,7 @@
 -- Assumes nothing.
 use borrow.Author.Needs.{needs}
 use mathlib.Core.Path.{refl, _∙_}
-use Rattle.table.specs.Reader.{count}
+use Rattle.fieldfile.specs.Reader.{count}
 use Rattle.decimals.proofs.Steps.{yes-at, not-at, then-got, then-bad, on}
 use Rattle.table.proofs.Steps.{count-low, count-high, count-is}
 use Rattle.table.proofs.count_at.Statement.{statement}

@@ -4,7 +4,7 @@ use borrow.Author.Needs.{needs}
 use mathlib.Core.Path.{_∙_}
 use Rattle.decimals.specs.Ascii.{ascii}
 use Rattle.decimals.proofs.Steps.{then-got, then-bad}
-use Rattle.table.specs.Reader.{table}
+use Rattle.fieldfile.specs.Reader.{table}
 use Rattle.table.proofs.Steps.{yes-table, not-table}
 use Rattle.table.proofs.table_at.Statement.{statement}
 use Rattle.table.proofs.table_at.Tie as tie

@@ -1,12 +1,12 @@
--- `fieldfile::formed`: the table, the terms, the bodies, and the end.
+-- `contents::formed`: the table, the terms, the bodies, and the end.
 -- Assumes nothing.
 use borrow.Author.Needs.{needs}
 use mathlib.Core.Path.{_∙_}
 use Rattle.decimals.proofs.Steps.{then-got, then-bad}
 use Rattle.fieldfile.specs.Reader.{whole}
-use Rattle.fieldfile.proofs.Steps.{not-formed, formed-more, formed-all}
-use Rattle.fieldfile.proofs.formed.Statement.{statement}
-use Rattle.fieldfile.proofs.formed.Tie as tie
+use Rattle.contents.proofs.Steps.{not-formed, formed-more, formed-all}
+use Rattle.contents.proofs.formed.Statement.{statement}
+use Rattle.contents.proofs.formed.Tie as tie
 
 table-at-requires : tie.Need-table-at-requires
 table-at-requires c κs = search needs

@@ -9,7 +9,7 @@ use Rattle.paper.specs.Units.{Terms, Places}
 use Rattle.image.specs.Lengths.{termWords}
 use Rattle.image.specs.Places.{cellsOf}
 use Rattle.decimals.specs.Reader.{Parsed, got, bad}
-use Rattle.fieldfile.specs.declared.Contents.{Contents}
+use Rattle.contents.specs.declared.Contents.{Contents}
 
 -- yes: the words are those of what was read
 pub record Formed (r : Bool) (ts cells : List ℕ) (p : Parsed (Terms × Places)) : Type 0 where

@@ -1,10 +1,10 @@
--- `bodies::spot_at`: by whether a line is left, and whether it is the line of this place.
+-- `spots::spot_at`: by whether a line is left, and whether it is the line of this place.
 -- Assumes nothing.
 use borrow.Author.Needs.{needs}
 use Rattle.decimals.proofs.Steps.{not-at}
-use Rattle.bodies.proofs.Steps.{spot-none, spot-skip, spot-bad, spot-is}
-use Rattle.bodies.proofs.spot_at.Statement.{statement}
-use Rattle.bodies.proofs.spot_at.Tie as tie
+use Rattle.spots.proofs.Steps.{spot-none, spot-skip, spot-bad, spot-is}
+use Rattle.spots.proofs.spot_at.Statement.{statement}
+use Rattle.spots.proofs.spot_at.Tie as tie
 
 clear-requires : tie.Need-clear-requires
 clear-requires c κs = search needs

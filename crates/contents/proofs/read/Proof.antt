@@ -1,10 +1,10 @@
--- `fieldfile::read`: too long, of the form, or not.
+-- `contents::read`: too long, of the form, or not.
 -- Assumes nothing.
 use Rattle.fieldfile.proofs.Agreement.{read-long, read-bad}
-use Rattle.fieldfile.proofs.Steps.{holds-none, holds-some}
+use Rattle.contents.proofs.Steps.{holds-none, holds-some}
 use borrow.Author.Needs.{needs}
-use Rattle.fieldfile.proofs.read.Statement.{statement}
-use Rattle.fieldfile.proofs.read.Tie as tie
+use Rattle.contents.proofs.read.Statement.{statement}
+use Rattle.contents.proofs.read.Tie as tie
 
 returns : tie.Need-returns
 returns c =

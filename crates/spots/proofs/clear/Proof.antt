@@ -1,11 +1,11 @@
--- `bodies::clear`: three stores.
+-- `spots::clear`: three stores.
 -- Assumes nothing.
 use native.Mathlib.Omega.{arith}
 use borrow.Author.Needs.{needs}
 use lib.ListN.{length-set}
-use Rattle.bodies.proofs.Steps.{three-set}
-use Rattle.bodies.proofs.clear.Statement.{statement}
-use Rattle.bodies.proofs.clear.Tie as tie
+use Rattle.spots.proofs.Steps.{three-set}
+use Rattle.spots.proofs.clear.Statement.{statement}
+use Rattle.spots.proofs.clear.Tie as tie
 
 mul-cells : tie.Need-mul-cells
 mul-cells c = search needs

@@ -4,25 +4,37 @@ use Prim.Native.Nat.{ℕ, _+_, _<_, _≤_}
 use mathlib.Core.Path.{_≡_, refl, sym, _∙_, ap}
 use mathlib.Core.Option.{none}
 use mathlib.Core.Bool.{Bool, true, false}
-use mathlib.Core.List.{List, [], _∷_, map}
+use mathlib.Core.List.{List, [], _∷_, append-nil, map}
 use native.Mathlib.Omega.{arith}
 use lib.ListN.{length, drop, length-drop, length-map, drop-of-length-le, replicate}
+use Rattle.words.specs.Paste.{pasted}
 use Rattle.paper.specs.Units.{Terms, Places}
-use Rattle.image.specs.Lengths.{word, termWords}
+use Rattle.image.specs.Lengths.{word, tripleWords, termWords}
 use Rattle.image.specs.Places.{cellsOf}
 use Rattle.image.proofs.Places.{length-cells}
 use Rattle.decimals.specs.Reader.{Parsed, got, bad, numbers}
 use Rattle.decimals.specs.Given.{Got, Laid}
 use Rattle.decimals.proofs.Steps.{then-got}
 use Rattle.decimals.proofs.Exact.{numbers-only}
-use Rattle.table.specs.Reader.{table}
-use Rattle.bodies.specs.Reader.{bodies}
-use Rattle.fieldfile.specs.Reader.{termsFrom, ends, whole, readOf}
-use Rattle.fieldfile.specs.Given.{Formed, contentsOf}
-use Rattle.fieldfile.specs.declared.Contents.{Contents}
-use Rattle.fieldfile.proofs.Lists.{terms-from, term-words, pasted-all}
+use Rattle.fieldfile.specs.Form.{termList}
+use Rattle.fieldfile.specs.Reader.{bodies, table, termsFrom, ends, whole, readOf}
+use Rattle.fieldfile.proofs.Lists.{terms-from}
 use Rattle.fieldfile.proofs.Exact.{whole-only}
 use Rattle.fieldfile.proofs.Agreement.{read-got}
+use Rattle.contents.specs.Given.{Formed, contentsOf}
+use Rattle.contents.specs.declared.Contents.{Contents}
+
+-- ---- the words
+
+term-words : (t : Terms) → termWords t ≡ map word (termList t)
+unfolding termWords tripleWords termList
+term-words t = refl
+
+pasted-all : (r xs : List ℕ) → length xs ≡ length r → pasted r 0 xs ≡ xs
+unfolding pasted
+pasted-all r xs e = let h : length r ≤ 0 + length xs = omega arith in rw (drop-of-length-le r h) (append-nil xs)
+
+-- ---- the file
 
 yes-formed : {ts cells : List ℕ} {p : Parsed (Terms × Places)} (t : Terms) (l : Places) → p ≡ got (t, l) [] → ts ≡ termWords t → cells ≡ cellsOf l → Formed true ts cells p
 yes-formed {p = p} t l e f g = record { good = λ h. (t, l, e, f, g); fail = never }
