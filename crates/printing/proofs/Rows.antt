@@ -2,6 +2,7 @@
 -- Assumes nothing.
 use Prim.Native.Nat.{ℕ, suc, _+_, _-_, _/_, _%_, _<_, _≤_}
 use mathlib.Core.Path.{_≡_, refl, sym, _∙_, ap}
+use mathlib.Core.Bool.{Bool, true, false, cond}
 use mathlib.Core.List.{List, [], _∷_, _++_}
 use native.Mathlib.Omega.{arith}
 use native.Mathlib.Numerals.{add-one}
@@ -29,6 +30,12 @@ put-then {out} {at} {x} {mid} {n} {y} p q h =
       end = q .end ∙ (omega (arith, p .end, length-append x y));
       row = q .row ∙ (ap (λ (l : List ℕ). pasted l n y) (p .row) ∙ pasted-then out at x n y (p .end) h);
     }
+
+pub put-as : {out : List ℕ} {at : ℕ} {x y last : List ℕ} {r : ℕ} → x ≡ y → Put out at y last r → Put out at x last r
+put-as e p = rw e p
+
+pub room-as : (at n : ℕ) {x y : List ℕ} → x ≡ y → at + length x ≤ n → at + length y ≤ n
+room-as at n e h = rw (← e) h
 
 pub put-digit : (out : List ℕ) (at m : ℕ) → m < 10 → at < length out → Put out at (digits m) (set out at (48 + m)) (at + 1)
 put-digit out at m h k = rw (digits-one m h) (put-byte out at (48 + m) k)
@@ -80,3 +87,12 @@ module _ (z sep : ℕ) where
     pub put-plus : {out mid : List ℕ} {at n : ℕ} → Put out at (digits (z - 1_000_000_000_000)) mid n
         → length mid ≡ length out → n < length out → Put out at (numeral (len z) ++ sep ∷ []) (set mid n sep) (n + 1)
     put-plus {out} {mid} {at} {n} q e k = rw field-plus (put-then q (put-byte mid n sep (omega arith)) (omega arith))
+
+-- ---- what is chosen
+
+module _ {f : Bool} where
+  pub chosen : (x y : List ℕ) → f ≡ true → cond f x y ≡ x
+  chosen x y e = rw e
+
+  pub passed : (x y : List ℕ) → f ≡ false → cond f x y ≡ y
+  passed x y e = rw e

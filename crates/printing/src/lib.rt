@@ -1,4 +1,5 @@
 // Fixed strings and lines of numbers, written into a slice as ASCII.
+ghost use mathlib.Core.Bool.{cond};
 ghost use mathlib.Core.List.{[], _∷_, _++_, map};
 ghost use Prim.Native.Nat.{_+_, _≤_};
 ghost use lib.ListN.{length};
@@ -64,4 +65,15 @@ pub fn put_fixed(out: &mut [u8], at: usize, w: &[u8]) -> usize
         j += 1;
     }
     at + j
+}
+
+// One fixed string or another.
+pub fn put_either(out: &mut [u8], at: usize, first: bool, a: &[u8], b: &[u8]) -> usize
+    requires { ⌜ at + length (cond first (now a) (now b)) ≤ length (now out) ⌝ }
+    ensures { λ r. ⌜ Put (now (out .entry)) at (cond first (now (a .entry)) (now (b .entry))) (now (out .exit)) r ⌝ }
+{
+    if first {
+        return put_fixed(out, at, a);
+    }
+    put_fixed(out, at, b)
 }

@@ -1,4 +1,4 @@
--- The pieces of a report: where each goes, which is chosen, and how long they are.
+-- The pieces of a report: where each goes, and how long they are.
 -- Assumes nothing.
 use Prim.Native.Nat.{ℕ, _+_, _*_, _≤_}
 use mathlib.Core.Path.{_≡_, refl}
@@ -47,27 +47,6 @@ module _ (out : List ℕ) (at : ℕ) (x y z : List ℕ) (h : at + length (x ++ y
 -- from the start of a row on
 pub starts : {n k : ℕ} → n ≤ k → 0 + n ≤ k
 starts h = omega arith
-
-pub put-as : {out : List ℕ} {at : ℕ} {x y last : List ℕ} {r : ℕ} → x ≡ y → Put out at y last r → Put out at x last r
-put-as e p = rw e p
-
-pub room-as : (at n : ℕ) {x y : List ℕ} → x ≡ y → at + length x ≤ n → at + length y ≤ n
-room-as at n e h = rw (← e) h
-
--- ---- what is chosen
-
-module _ {f : Bool} where
-  pub chosen : (x y : List ℕ) → f ≡ true → cond f x y ≡ x
-  chosen x y e = rw e
-
-  pub passed : (x y : List ℕ) → f ≡ false → cond f x y ≡ y
-  passed x y e = rw e
-
-  pub both-chosen : (g : Bool) (x y : List ℕ) → f ≡ true → cond (f && g) x y ≡ cond g x y
-  both-chosen g x y e = rw e
-
-  pub both-passed : (g : Bool) (x y : List ℕ) → f ≡ false → cond (f && g) x y ≡ y
-  both-passed g x y e = rw e
 
 -- ---- numbers
 

@@ -1,5 +1,4 @@
 // What the program prints of two verdicts.
-ghost use mathlib.Core.Bool.{cond};
 ghost use mathlib.Core.List.{[], _∷_};
 ghost use Prim.Native.Nat.{_+_, _≤_};
 ghost use lib.ListN.{length};
@@ -14,17 +13,6 @@ pub struct Axis {
     pub within: bool,
     pub m: u64,
     pub b: u64,
-}
-
-// One fixed string or another.
-fn put_either(out: &mut [u8], at: usize, first: bool, a: &[u8], b: &[u8]) -> usize
-    requires { ⌜ at + length (cond first (now a) (now b)) ≤ length (now out) ⌝ }
-    ensures { λ r. ⌜ Put (now (out .entry)) at (cond first (now (a .entry)) (now (b .entry))) (now (out .exit)) r ⌝ }
-{
-    if first {
-        return printing::put_fixed(out, at, a);
-    }
-    printing::put_fixed(out, at, b)
 }
 
 // A line of m and b.
@@ -42,7 +30,7 @@ fn put_axis(out: &mut [u8], at: usize, name: &[u8], axis: Axis) -> usize
     ensures { λ r. ⌜ Put (now (out .entry)) at (axisLine (now (name .entry)) (judged axis)) (now (out .exit)) r ⌝ }
 {
     let i = printing::put_fixed(out, at, name);
-    let j = put_either(out, i, axis.within, b"WITHIN ", b"BEYOND ");
+    let j = printing::put_either(out, i, axis.within, b"WITHIN ", b"BEYOND ");
     put_figures(out, j, axis.m, axis.b)
 }
 
@@ -53,8 +41,5 @@ pub fn put_verdicts(out: &mut [u8], xy: Axis, h: Axis) -> usize
 {
     let i = put_axis(out, 0, b"XY ", xy);
     let j = put_axis(out, i, b"H ", h);
-    if xy.within {
-        return put_either(out, j, h.within, b"PASS\n", b"FAIL\n");
-    }
-    printing::put_fixed(out, j, b"FAIL\n")
+    printing::put_either(out, j, xy.within & h.within, b"PASS\n", b"FAIL\n")
 }

@@ -4,7 +4,8 @@ use borrow.Author.Needs.{needs}
 use mathlib.Core.Path.{ap, sym}
 use mathlib.Core.List.{[], _∷_}
 use Rattle.decimals.specs.Numbers.{line}
-use Rattle.verdicts.proofs.Pieces.{put-as, room-as, lens-up}
+use Rattle.printing.proofs.Rows.{put-as, room-as}
+use Rattle.verdicts.proofs.Pieces.{lens-up}
 use Rattle.verdicts.proofs.put_figures.Statement.{statement}
 use Rattle.verdicts.proofs.put_figures.Tie as tie
 

@@ -9,7 +9,7 @@ use Rattle.decimals.specs.Ascii.{ascii}
 use Rattle.verdicts.specs.Text.{XY, H, PASS, FAIL, axisLine, verdictText}
 use Rattle.verdicts.specs.Given.{judged}
 use Rattle.verdicts.specs.declared.Axis.{Axis}
-use Rattle.verdicts.proofs.Pieces.{first-fits, second-fits, two-fit, third-fits, all-three, put-as, room-as, both-chosen, both-passed, starts}
+use Rattle.verdicts.proofs.Pieces.{first-fits, second-fits, two-fit, third-fits, all-three, starts}
 use Rattle.verdicts.proofs.put_verdicts.Statement.{statement}
 use Rattle.verdicts.proofs.put_verdicts.Tie as tie
 
@@ -51,9 +51,8 @@ slice-aggregate-put-either-2 c = search needs
 put-either-requires : tie.Need-put-either-requires
 unfolding verdictText ascii
 put-either-requires c κs =
-    let a = c .before .before .before .before .before .before .before .before .before .before .before .before .before .before .before .args in
-    room-as _ _ (both-chosen (a .h .within) PASS FAIL (c .before .before .before .if1 .taken))
-    (third-fits (a .out .now) 0 (lineXY (a .xy)) (lineH (a .h)) (last (a .xy) (a .h)) (starts (c .before .before .before .before .before .before .before .before .before .before .before .before .before .before .before .pre .2)) (c .before .before .before .before .before .before .before .before .before .before .before .put-axis .ensures) (c .before .before .before .before .before .before .put-axis2 .ensures) (c .before .before .before .before .before .before .put-axis2 .kept .0 ∙ c .before .before .before .before .before .before .before .before .before .before .before .put-axis .kept .0))
+    let a = c .before .before .before .before .before .before .before .before .before .before .before .before .before .before .before .before .args in
+    third-fits (a .out .now) 0 (lineXY (a .xy)) (lineH (a .h)) (last (a .xy) (a .h)) (starts (c .before .before .before .before .before .before .before .before .before .before .before .before .before .before .before .before .pre .2)) (c .before .before .before .before .before .before .before .before .before .before .before .before .put-axis .ensures) (c .before .before .before .before .before .before .before .put-axis2 .ensures) (c .before .before .before .before .before .before .before .put-axis2 .kept .0 ∙ c .before .before .before .before .before .before .before .before .before .before .before .before .put-axis .kept .0)
 
 same-length : tie.Need-same-length
 same-length c = search needs
@@ -61,29 +60,8 @@ same-length c = search needs
 returns : tie.Need-returns
 unfolding verdictText ascii
 returns c =
-    let a = c .before .before .before .before .before .before .before .before .before .before .before .before .before .before .before .before .before .before .args in
-    all-three (a .out .now) 0 (lineXY (a .xy)) (lineH (a .h)) (last (a .xy) (a .h)) (starts (c .before .before .before .before .before .before .before .before .before .before .before .before .before .before .before .before .before .before .pre .2)) (c .before .before .before .before .before .before .before .before .before .before .before .before .before .before .put-axis .ensures) (c .before .before .before .before .before .before .before .before .before .put-axis2 .ensures)
-    (put-as (both-chosen (a .h .within) PASS FAIL (c .before .before .before .before .before .before .if1 .taken)) (c .before .before .put-either .ensures))
-
-slice-aggregate-put-fixed : tie.Need-slice-aggregate-put-fixed
-slice-aggregate-put-fixed c = search needs
-
-put-fixed-requires : tie.Need-put-fixed-requires
-unfolding verdictText ascii
-put-fixed-requires c κs =
-    let a = c .before .before .before .before .before .before .before .before .before .before .before .before .before .before .args in
-    room-as _ _ (both-passed (a .h .within) PASS FAIL (c .before .before .if1 .left))
-    (third-fits (a .out .now) 0 (lineXY (a .xy)) (lineH (a .h)) (last (a .xy) (a .h)) (starts (c .before .before .before .before .before .before .before .before .before .before .before .before .before .before .pre .2)) (c .before .before .before .before .before .before .before .before .before .before .put-axis .ensures) (c .before .before .before .before .before .put-axis2 .ensures) (c .before .before .before .before .before .put-axis2 .kept .0 ∙ c .before .before .before .before .before .before .before .before .before .before .put-axis .kept .0))
-
-same-length-2 : tie.Need-same-length-2
-same-length-2 c = search needs
-
-returns-2 : tie.Need-returns-2
-unfolding verdictText ascii
-returns-2 c =
-    let a = c .before .before .before .before .before .before .before .before .before .before .before .before .before .before .before .before .before .args in
-    all-three (a .out .now) 0 (lineXY (a .xy)) (lineH (a .h)) (last (a .xy) (a .h)) (starts (c .before .before .before .before .before .before .before .before .before .before .before .before .before .before .before .before .before .pre .2)) (c .before .before .before .before .before .before .before .before .before .before .before .before .before .put-axis .ensures) (c .before .before .before .before .before .before .before .before .put-axis2 .ensures)
-    (put-as (both-passed (a .h .within) PASS FAIL (c .before .before .before .before .before .if1 .left)) (c .before .before .put-fixed .ensures))
+    let a = c .before .before .before .before .before .before .before .before .before .before .before .before .before .before .before .before .before .before .before .args in
+    all-three (a .out .now) 0 (lineXY (a .xy)) (lineH (a .h)) (last (a .xy) (a .h)) (starts (c .before .before .before .before .before .before .before .before .before .before .before .before .before .before .before .before .before .before .before .pre .2)) (c .before .before .before .before .before .before .before .before .before .before .before .before .before .before .before .put-axis .ensures) (c .before .before .before .before .before .before .before .before .before .before .put-axis2 .ensures) (c .before .before .put-either .ensures)
 
 pub put-verdicts-spec : {M : Type 1} → statement M
 put-verdicts-spec =
@@ -97,8 +75,4 @@ put-verdicts-spec =
     slice-aggregate-put-either-2
     put-either-requires
     same-length
-    returns
-    slice-aggregate-put-fixed
-    put-fixed-requires
-    same-length-2
-    returns-2)
+    returns)

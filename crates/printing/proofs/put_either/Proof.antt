@@ -1,9 +1,9 @@
--- `verdicts::put_either`: by the flag.
+-- `printing::put_either`: by the flag.
 -- Assumes nothing.
 use borrow.Author.Needs.{needs}
-use Rattle.verdicts.proofs.Pieces.{put-as, room-as, chosen, passed}
-use Rattle.verdicts.proofs.put_either.Statement.{statement}
-use Rattle.verdicts.proofs.put_either.Tie as tie
+use Rattle.printing.proofs.Rows.{put-as, room-as, chosen, passed}
+use Rattle.printing.proofs.put_either.Statement.{statement}
+use Rattle.printing.proofs.put_either.Tie as tie
 
 put-fixed-requires : tie.Need-put-fixed-requires
 put-fixed-requires c κs =
