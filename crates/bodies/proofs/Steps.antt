@@ -113,6 +113,21 @@ module _ (s : List ℕ) (at count : ℕ) (cells₀ : List ℕ) (base : ℕ) wher
 ten-places : (count : ℕ) (l : List ℕ) {xs : Places} {r : List ℕ} → series count l ≡ got xs r → length xs ≡ 10
 ten-places count l e = spots-only 10 0 count l (omega arith) e .1
 
+module _ (s : List ℕ) (at a b c : ℕ) where
+  pub no-first : series a (drop at s) ≡ bad → bodies a b c (drop at s) ≡ bad
+  unfolding bodies
+  no-first e = then-bad _ e
+
+  module _ {P : Places → ℕ → Type 0} {x i : ℕ} (f : Got P s at x i (series a (drop at s))) where
+    pub no-second : series b (drop i s) ≡ bad → bodies a b c (drop at s) ≡ bad
+    unfolding bodies
+    no-second e = then-got _ (f .reads) ∙ then-bad _ e
+
+    module _ {Q : Places → ℕ → Type 0} {y j : ℕ} (g : Got Q s i y j (series b (drop i s))) where
+      pub no-third : series c (drop j s) ≡ bad → bodies a b c (drop at s) ≡ bad
+      unfolding bodies
+      no-third e = then-got _ (f .reads) ∙ (then-got _ (g .reads) ∙ then-bad _ e)
+
 module _ (s : List ℕ) (at a b c : ℕ) (cells : List ℕ) where
   pub bodies-all : {c1 c2 c3 : List ℕ} {x y z i j n : ℕ} → length cells ≡ 90
       → Got (Laid cellsOf cells 0 c1) s at x i (series a (drop at s))

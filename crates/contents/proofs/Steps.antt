@@ -7,6 +7,7 @@ use mathlib.Core.Bool.{Bool, true, false}
 use mathlib.Core.List.{List, [], _∷_, append-nil, map}
 use native.Mathlib.Omega.{arith}
 use lib.ListN.{length, drop, length-drop, length-map, drop-of-length-le, replicate}
+use lib.IntN.{ℤ}
 use Rattle.words.specs.Paste.{pasted}
 use Rattle.paper.specs.Units.{Terms, Places}
 use Rattle.image.specs.Lengths.{word, tripleWords, termWords}
@@ -14,7 +15,7 @@ use Rattle.image.specs.Places.{cellsOf}
 use Rattle.image.proofs.Places.{length-cells}
 use Rattle.decimals.specs.Reader.{Parsed, got, bad, numbers}
 use Rattle.decimals.specs.Given.{Got, Laid}
-use Rattle.decimals.proofs.Steps.{then-got}
+use Rattle.decimals.proofs.Steps.{then-got, then-bad}
 use Rattle.decimals.proofs.Exact.{numbers-only}
 use Rattle.fieldfile.specs.Form.{termList}
 use Rattle.fieldfile.specs.Reader.{bodies, table, termsFrom, ends, whole, readOf}
@@ -47,6 +48,11 @@ not-formed {ts} {cells} {p} e = record { good = never; fail = λ h. e }
   where
     never : false ≡ true → (t : Terms) × (l : Places) × (p ≡ got (t, l) []) × (ts ≡ termWords t) × (cells ≡ cellsOf l)
     never h = let z : _≡_ {A = ℕ} 0 1 = cc in absurd (omega arith)
+
+module _ (s : List ℕ) {a b c i : ℕ} (e : table s ≡ got (a, b, c) (drop i s)) {P : List ℤ → ℕ → Type 0} {x j : ℕ} (g : Got P s i x j (numbers 12 (drop i s))) where
+  pub no-bodies : bodies a b c (drop j s) ≡ bad → whole s ≡ bad
+  unfolding whole
+  no-bodies f = then-got _ e ∙ (then-got _ (g .reads) ∙ then-bad _ f)
 
 module _ (s : List ℕ) {a b c i : ℕ} (e : table s ≡ got (a, b, c) (drop i s)) (ts₀ ts cells₀ cells : List ℕ) {x y j k : ℕ}
     (g : Got (Laid (map word) ts₀ 0 ts) s i x j (numbers 12 (drop i s)))

@@ -8,8 +8,8 @@ ghost use Rattle.report.specs.Text.{reportOf};
 ghost use Rattle.report.specs.Given.{held};
 use evaluation::Evaluated;
 use evaluation::Judgement;
-use verdicts::Axis;
 use report::Printed;
+use verdicts::Axis;
 
 // The evaluation of a file's book, in whole numbers: after the file's own refusals SHORT, SUSPECT.
 pub fn judge_file(file: &[u8]) -> Judgement

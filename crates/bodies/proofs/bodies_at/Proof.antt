@@ -1,10 +1,8 @@
 -- `bodies::bodies_at`: three series, one after another.
 -- Assumes nothing.
 use borrow.Author.Needs.{needs}
-use mathlib.Core.Path.{_∙_}
-use Rattle.decimals.proofs.Steps.{not-at, then-got, then-bad}
-use Rattle.fieldfile.specs.Reader.{bodies}
-use Rattle.bodies.proofs.Steps.{bodies-all}
+use Rattle.decimals.proofs.Steps.{not-at}
+use Rattle.bodies.proofs.Steps.{no-first, no-second, no-third, bodies-all}
 use Rattle.bodies.proofs.bodies_at.Statement.{statement}
 use Rattle.bodies.proofs.bodies_at.Tie as tie
 
@@ -21,9 +19,9 @@ same-length : tie.Need-same-length
 same-length c = search needs
 
 returns : tie.Need-returns
-unfolding bodies
 returns c =
-    not-at (then-bad _ (c .before .before .before .before .series-at .ensures .fail (c .enum-told .given .1)))
+    let a = c .before .before .before .before .before .before .before .before .args in
+    not-at (no-first (a .s .now) (a .at) (a .a) (a .b) (a .c) (c .before .before .before .before .series-at .ensures .fail (c .enum-told .given .1)))
 
 series-at-requires-2 : tie.Need-series-at-requires-2
 series-at-requires-2 c κs =
@@ -39,10 +37,10 @@ same-length-2 : tie.Need-same-length-2
 same-length-2 c = search needs
 
 returns-2 : tie.Need-returns-2
-unfolding bodies
 returns-2 c =
+    let a = c .before .before .before .before .before .before .before .before .before .before .before .before .before .before .before .args in
     let f = c .before .before .before .before .before .before .before .before .before .before .before .series-at .ensures .good _ _ (c .before .before .before .before .before .before .before .i .given .1) in
-    not-at (then-got _ (f .reads) ∙ then-bad _ (c .before .before .before .before .series-at2 .ensures .fail (c .enum-told2 .given .1)))
+    not-at (no-second (a .s .now) (a .at) (a .a) (a .b) (a .c) f (c .before .before .before .before .series-at2 .ensures .fail (c .enum-told2 .given .1)))
 
 series-at-requires-3 : tie.Need-series-at-requires-3
 series-at-requires-3 c κs =
@@ -58,11 +56,11 @@ same-length-3 : tie.Need-same-length-3
 same-length-3 c = search needs
 
 returns-3 : tie.Need-returns-3
-unfolding bodies
 returns-3 c =
+    let a = c .before .before .before .before .before .before .before .before .before .before .before .before .before .before .before .before .before .before .before .before .before .before .args in
     let f = c .before .before .before .before .before .before .before .before .before .before .before .before .before .before .before .before .before .before .series-at .ensures .good _ _ (c .before .before .before .before .before .before .before .before .before .before .before .before .before .before .i .given .1) in
     let g = c .before .before .before .before .before .before .before .before .before .before .before .series-at2 .ensures .good _ _ (c .before .before .before .before .before .before .before .j .given .1) in
-    not-at (then-got _ (f .reads) ∙ (then-got _ (g .reads) ∙ then-bad _ (c .before .before .before .before .series-at3 .ensures .fail (c .enum-told3 .given .1))))
+    not-at (no-third (a .s .now) (a .at) (a .a) (a .b) (a .c) f g (c .before .before .before .before .series-at3 .ensures .fail (c .enum-told3 .given .1)))
 
 same-length-4 : tie.Need-same-length-4
 same-length-4 c = search needs

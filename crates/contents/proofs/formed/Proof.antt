@@ -4,7 +4,7 @@ use borrow.Author.Needs.{needs}
 use mathlib.Core.Path.{_∙_}
 use Rattle.decimals.proofs.Steps.{then-got, then-bad}
 use Rattle.fieldfile.specs.Reader.{whole}
-use Rattle.contents.proofs.Steps.{not-formed, formed-more, formed-all}
+use Rattle.contents.proofs.Steps.{not-formed, no-bodies, formed-more, formed-all}
 use Rattle.contents.proofs.formed.Statement.{statement}
 use Rattle.contents.proofs.formed.Tie as tie
 
@@ -58,11 +58,10 @@ same-length-3 : tie.Need-same-length-3
 same-length-3 c = search needs
 
 returns-3 : tie.Need-returns-3
-unfolding whole
 returns-3 c =
     let e = c .before .before .before .before .before .before .before .before .before .before .before .before .before .before .before .before .table-at .ensures .good _ _ _ _ (c .before .before .before .before .before .before .before .before .before .before .before .before .before .before .a .given .1) in
     let g = c .before .before .before .before .before .before .before .before .before .before .before .numbers-at .ensures .good _ _ (c .before .before .before .before .before .before .before .j .given .1) in
-    not-formed (then-got _ (e .0) ∙ (then-got _ (g .reads) ∙ then-bad _ (c .before .before .before .before .bodies-at .ensures .fail (c .enum-told3 .given .1))))
+    not-formed (no-bodies _ (e .0) g (c .before .before .before .before .bodies-at .ensures .fail (c .enum-told3 .given .1)))
 
 same-length-4 : tie.Need-same-length-4
 same-length-4 c = search needs

@@ -1,4 +1,4 @@
-use mathlib.Core.Path.{_≡_, _∙_}
+use mathlib.Core.Path.{_∙_}
 use Rattle.fieldbook.proofs.Ways.{file-refused, file-judged}
 use borrow.Author.Needs.{needs}
 use Rattle.fieldbook.proofs.judge_file.Statement.{statement}

@@ -1,4 +1,4 @@
-use mathlib.Core.Path.{_≡_, ap, _∙_}
+use mathlib.Core.Path.{ap, _∙_}
 use Rattle.form.proofs.Laws.{known}
 use Rattle.book.specs.declared.Book.{Book}
 use Rattle.book.specs.Steps.{step}

@@ -1,11 +1,8 @@
 -- `table::table_at`: a fixed string, and three counts.
 -- Assumes nothing.
 use borrow.Author.Needs.{needs}
-use mathlib.Core.Path.{_∙_}
 use Rattle.decimals.specs.Ascii.{ascii}
-use Rattle.decimals.proofs.Steps.{then-got, then-bad}
-use Rattle.fieldfile.specs.Reader.{table}
-use Rattle.table.proofs.Steps.{yes-table, not-table}
+use Rattle.table.proofs.Steps.{no-head, no-first, no-second, no-third, all-counts}
 use Rattle.table.proofs.table_at.Statement.{statement}
 use Rattle.table.proofs.table_at.Tie as tie
 
@@ -22,9 +19,9 @@ enum-told : tie.Need-enum-told
 enum-told c = search needs
 
 returns : tie.Need-returns
-unfolding table ascii
+unfolding ascii
 returns c =
-    not-table (then-bad _ (c .before .before .fixed-at .ensures .fail (c .enum-told .given .1)))
+    no-head _ (c .before .before .fixed-at .ensures .fail (c .enum-told .given .1))
 
 slice-aggregate-count-at : tie.Need-slice-aggregate-count-at
 slice-aggregate-count-at c = search needs
@@ -40,10 +37,10 @@ enum-told-2 : tie.Need-enum-told-2
 enum-told-2 c = search needs
 
 returns-2 : tie.Need-returns-2
-unfolding table ascii
+unfolding ascii
 returns-2 c =
     let j = c .before .before .before .before .before .before .before .fixed-at .ensures .good _ _ (c .before .before .before .before .before .j .given .1) in
-    not-table (then-got _ (j .reads) ∙ then-bad _ (c .before .before .count-at .ensures .fail (c .enum-told2 .given .1)))
+    no-first _ j (c .before .before .count-at .ensures .fail (c .enum-told2 .given .1))
 
 slice-aggregate-count-at-2 : tie.Need-slice-aggregate-count-at-2
 slice-aggregate-count-at-2 c = search needs
@@ -59,11 +56,11 @@ enum-told-3 : tie.Need-enum-told-3
 enum-told-3 c = search needs
 
 returns-3 : tie.Need-returns-3
-unfolding table ascii
+unfolding ascii
 returns-3 c =
     let j = c .before .before .before .before .before .before .before .before .before .before .before .before .fixed-at .ensures .good _ _ (c .before .before .before .before .before .before .before .before .before .before .j .given .1) in
     let a = c .before .before .before .before .before .before .before .count-at .ensures .good _ _ (c .before .before .before .before .before .a .given .1) in
-    not-table (then-got _ (j .reads) ∙ (then-got _ (a .reads) ∙ then-bad _ (c .before .before .count-at2 .ensures .fail (c .enum-told3 .given .1))))
+    no-second _ j a (c .before .before .count-at2 .ensures .fail (c .enum-told3 .given .1))
 
 slice-aggregate-count-at-3 : tie.Need-slice-aggregate-count-at-3
 slice-aggregate-count-at-3 c = search needs
@@ -79,21 +76,21 @@ enum-told-4 : tie.Need-enum-told-4
 enum-told-4 c = search needs
 
 returns-4 : tie.Need-returns-4
-unfolding table ascii
+unfolding ascii
 returns-4 c =
     let j = c .before .before .before .before .before .before .before .before .before .before .before .before .before .before .before .before .before .fixed-at .ensures .good _ _ (c .before .before .before .before .before .before .before .before .before .before .before .before .before .before .before .j .given .1) in
     let a = c .before .before .before .before .before .before .before .before .before .before .before .before .count-at .ensures .good _ _ (c .before .before .before .before .before .before .before .before .before .before .a .given .1) in
     let b = c .before .before .before .before .before .before .before .count-at2 .ensures .good _ _ (c .before .before .before .before .before .b .given .1) in
-    not-table (then-got _ (j .reads) ∙ (then-got _ (a .reads) ∙ (then-got _ (b .reads) ∙ then-bad _ (c .before .before .count-at3 .ensures .fail (c .enum-told4 .given .1)))))
+    no-third _ j a b (c .before .before .count-at3 .ensures .fail (c .enum-told4 .given .1))
 
 returns-5 : tie.Need-returns-5
-unfolding table ascii
+unfolding ascii
 returns-5 c =
     let j = c .before .before .before .before .before .before .before .before .before .before .before .before .before .before .before .before .before .before .fixed-at .ensures .good _ _ (c .before .before .before .before .before .before .before .before .before .before .before .before .before .before .before .before .j .given .1) in
     let a = c .before .before .before .before .before .before .before .before .before .before .before .before .before .count-at .ensures .good _ _ (c .before .before .before .before .before .before .before .before .before .before .before .a .given .1) in
     let b = c .before .before .before .before .before .before .before .before .count-at2 .ensures .good _ _ (c .before .before .before .before .before .before .b .given .1) in
     let d = c .before .before .before .count-at3 .ensures .good _ _ (c .before .c .given .1) in
-    yes-table (a .value) (b .value) (d .value) (then-got _ (j .reads) ∙ (then-got _ (a .reads) ∙ (then-got _ (b .reads) ∙ then-got _ (d .reads)))) (a .holds) (b .holds) (d .holds) (d .to)
+    all-counts _ j a b d
 
 pub table-at-spec : {M : Type 1} → statement M
 table-at-spec =
