@@ -1,5 +1,4 @@
 pub mod Steps
 pub mod Exact
-pub mod Rows
-pub mod Lines
+pub mod Long
 pub mod Tables

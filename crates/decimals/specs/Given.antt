@@ -1,5 +1,5 @@
--- What the code says of a place of a slice, against what the reader of lists gives there; and what it writes.
-use Prim.Native.Nat.{ℕ, _+_, _≤_, _<_}
+-- What the code says of a place of a slice, against what the reader of lists gives there.
+use Prim.Native.Nat.{ℕ, _≤_, _<_}
 use mathlib.Core.Path.{_≡_}
 use mathlib.Core.List.{List}
 use lib.ListN.{length, drop}
@@ -36,8 +36,3 @@ Word z m = m ≡ word z
 -- its words, laid into a row from base on
 abbrev pub Laid : {A : Type 0} → (A → List ℕ) → (out : List ℕ) (base : ℕ) (last : List ℕ) → A → ℕ → Type 0
 Laid f out base last v m = last ≡ pasted out base (f v)
-
--- a text was written into a row from `at` on, and ends at r
-pub record Put (out : List ℕ) (at : ℕ) (text last : List ℕ) (r : ℕ) : Type 0 where
-  pub end : r ≡ at + length text
-  pub row : last ≡ pasted out at text

@@ -2,7 +2,7 @@
 -- Assumes nothing.
 use Prim.Native.Nat.{ℕ, zero, suc, _<_}
 use native.Mathlib.Omega.{arith}
-use mathlib.Core.Path.{_≡_, refl, sym, ap, _∙_, subst}
+use mathlib.Core.Path.{_≡_, refl, subst}
 use mathlib.Core.Bool.{Bool, true, false, cond, not, _&&_}
 use mathlib.Core.Option.{Option, none, some, Option·map}
 use mathlib.Core.List.{List, [], _∷_}
@@ -12,7 +12,7 @@ use Rattle.paper.specs.Units.{Terms, Places, inRange, allNear}
 use Rattle.paper.specs.Screening.{Suspect, sheetOrder, first, firstSuspect, suspicious}
 use Rattle.paper.specs.Verdicts.{Evaluation}
 use Rattle.paper.specs.Books as paper
-use Rattle.paper.specs.Calls.{evaluate, ask}
+use Rattle.paper.specs.Calls.{evaluate}
 use Rattle.paper.specs.TurnedAway.{isClosed, short, suspectOf, found, lowest, evaluating, evaluated, questioned}
 use Rattle.paper.specs.Answers.{evaluates, Answer, nowhere, named, suspectIn, given, beside, answered, says, unless}
 use Rattle.paper.specs.Alone as alone
@@ -21,9 +21,10 @@ use Rattle.evaluation.specs.Evaluating.{judgementOf}
 use Rattle.evaluation.specs.declared.Judgement.{Judgement}
 use Rattle.figures.specs.declared.Judged as judged
 use Rattle.figures.specs.Judging.{AllHeld}
-use Rattle.report.specs.declared.Axis.{Axis}
-use Rattle.report.specs.Given as given
-use Rattle.report.specs.Text.{axisLine, verdictText, refusalNumbers, refusalText, reportText, valueText, reportOf}
+use Rattle.verdicts.specs.declared.Axis.{Axis}
+use Rattle.verdicts.specs.Given as given
+use Rattle.verdicts.specs.Text.{axisLine, verdictText}
+use Rattle.report.specs.Text.{refusalNumbers, refusalText, reportText, valueText, reportOf}
 
 -- at most the greatest number that a report prints
 abbrev small : ℕ → Bool

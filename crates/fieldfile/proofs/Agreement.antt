@@ -18,7 +18,7 @@ use Rattle.image.proofs.Places.{Short as Small, AllShort as AllSmall, spots-cel
 use Rattle.decimals.specs.Ascii.{ascii}
 use Rattle.decimals.specs.Numbers.{numeral, Short, AllShort, line}
 use Rattle.decimals.specs.Reader.{Parsed, got, bad}
-use Rattle.decimals.proofs.Rows.{long-most, long-line}
+use Rattle.decimals.proofs.Long.{long-most, long-line}
 use Rattle.fieldfile.specs.Form.{termList, ofSeries, entry, body, lines, text, ShortSpot, ShortSpots, Printable, OfForm}
 use Rattle.fieldfile.specs.Reader.{tag, whole, taken, readOf}
 use Rattle.fieldfile.proofs.Lists.{length-series, all-series, lines-most, short-split3}

@@ -1,5 +1,4 @@
 pub mod Lists
 pub mod Exact
 pub mod Agreement
-pub mod Steps
 pub mod Examples

@@ -3,17 +3,12 @@
 use Prim.Native.Nat.{ℕ, zero, suc, _+_, _-_, _*_, _≤_}
 use mathlib.Core.Path.{_≡_, refl, sym, _∙_, ap}
 use mathlib.Core.Option.{none, some}
-use mathlib.Core.List.{List, [], _∷_, _++_, append-assoc, append-nil, map}
+use mathlib.Core.List.{List, [], _∷_, _++_}
 use native.Mathlib.Omega.{arith}
 use lib.ListN.{length, take, drop, getD, take-append-drop, length-drop, drop-of-length-le}
 use lib.Seq.{drop-cons, take-all, length-take-le, take-at, drop-at, drop-drop}
 use lib.IntN.{ℤ, pos}
-use Rattle.words.specs.Paste.{pasted}
-use Rattle.words.proofs.Paste.{pasted-then}
-use Rattle.paper.specs.Units.{Triple, Terms, Places, inOrder}
-use Rattle.image.specs.Lengths.{word, tripleWords, termWords}
-use Rattle.image.specs.Places.{spotWords, cellsOf}
-use Rattle.image.proofs.Places.{length-cells}
+use Rattle.paper.specs.Units.{Terms, Places, inOrder}
 use Rattle.fieldfile.specs.Form.{termList, ofSeries, lines, ShortSpots}
 use Rattle.fieldfile.specs.Reader.{tripleFrom, termsFrom}
 
@@ -41,31 +36,7 @@ pub from-terms : (t : Terms) → termsFrom (termList t) ≡ t
 unfolding termsFrom termList
 from-terms t = refl
 
-pub term-words : (t : Terms) → termWords t ≡ map word (termList t)
-unfolding termWords tripleWords termList
-term-words t = refl
-
-pub spot-words : (v : Triple) → spotWords (some v) ≡ map word (v .x ∷ v .y ∷ v .h ∷ [])
-unfolding spotWords tripleWords
-spot-words v = refl
-
 -- ---- the places of the three series
-
-pub cells-append : (xs ys : Places) → cellsOf (xs ++ ys) ≡ cellsOf xs ++ cellsOf ys
-unfolding cellsOf
-cells-append [] ys = refl
-cells-append (v ∷ xs) ys = rw (cells-append xs ys) (simp append-assoc)
-
--- a series after others
-pub cells-then : (cells mid last : List ℕ) (xs ys : Places) (base : ℕ) → base ≡ 3 * length xs → base + 3 * length ys ≤ length cells
-    → mid ≡ pasted cells 0 (cellsOf xs) → last ≡ pasted mid base (cellsOf ys) → last ≡ pasted cells 0 (cellsOf (xs ++ ys))
-cells-then cells mid last xs ys base e h p q =
-    q ∙ rw (p, cells-append xs ys)
-    (pasted-then cells 0 (cellsOf xs) base (cellsOf ys) (omega (arith, length-cells xs)) (omega (arith, length-cells ys)))
-
-pub pasted-all : (r xs : List ℕ) → length xs ≡ length r → pasted r 0 xs ≡ xs
-unfolding pasted
-pasted-all r xs e = let h : length r ≤ 0 + length xs = omega arith in rw (drop-of-length-le r h) (append-nil xs)
 
 module _ (l : Places) (n : length l ≡ 30) where
   pub length-series : (i : ℕ) → 1 ≤ i → i ≤ 3 → length (ofSeries i l) ≡ 10

@@ -1,3 +1,2 @@
 pub mod Form
 pub mod Reader
-pub mod Given

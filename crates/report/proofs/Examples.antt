@@ -23,7 +23,8 @@ use Rattle.decimals.specs.Reader.{then, fixed, stops, run, nonzero, number, fie
 use Rattle.decimals.proofs.Tables.{each-right}
 use Rattle.fieldfile.specs.Reader.{placed, spot, spots, bodies, upTo10, count, table, termsFrom, ends, whole, readOf}
 use Rattle.fieldfile.proofs.Examples.{paper-file}
-use Rattle.report.specs.Text.{axisLine, verdictText, refusalNumbers, refusalText, reportText, valueText, reportOf}
+use Rattle.verdicts.specs.Text.{axisLine, verdictText}
+use Rattle.report.specs.Text.{refusalNumbers, refusalText, reportText, valueText, reportOf}
 
 -- what is printed of a file
 unfoldable pub printed : List ℕ → List ℕ

@@ -1,21 +1,12 @@
 // What the program prints of an evaluation.
 ghost use mathlib.Core.Path.{_≡_};
-ghost use mathlib.Core.Bool.{cond};
-ghost use mathlib.Core.List.{[], _∷_};
-ghost use Prim.Native.Nat.{_+_, _≤_};
+ghost use Prim.Native.Nat.{_≤_};
 ghost use lib.ListN.{length};
-ghost use lib.IntN.{pos};
-ghost use Rattle.decimals.specs.Numbers.{line};
-ghost use Rattle.decimals.specs.Given.{Put};
-ghost use Rattle.report.specs.Text.{PASS, FAIL, axisLine, verdictText, refusalText, reportText};
-ghost use Rattle.report.specs.Given.{judged, suspect, Fits, FitsAxis, held};
-
-// A verdict in whole numbers: s is m / 1,024 mm, its bound b / 1,024 mm.
-pub struct Axis {
-    pub within: bool,
-    pub m: u64,
-    pub b: u64,
-}
+ghost use Rattle.printing.specs.Given.{Put};
+ghost use Rattle.verdicts.specs.Given.{judged, Fits, FitsAxis};
+ghost use Rattle.report.specs.Text.{refusalText, reportText};
+ghost use Rattle.report.specs.Given.{suspect, held};
+use verdicts::Axis;
 
 // The first `len` bytes are the text.
 pub struct Printed {
@@ -23,55 +14,12 @@ pub struct Printed {
     pub len: usize,
 }
 
-// One fixed string or another.
-fn put_either(out: &mut [u8], at: usize, first: bool, a: &[u8], b: &[u8]) -> usize
-    requires { ⌜ at + length (cond first (now a) (now b)) ≤ length (now out) ⌝ }
-    ensures { λ r. ⌜ Put (now (out .entry)) at (cond first (now (a .entry)) (now (b .entry))) (now (out .exit)) r ⌝ }
-{
-    if first {
-        return decimals::put_fixed(out, at, a);
-    }
-    decimals::put_fixed(out, at, b)
-}
-
-// A line of m and b.
-fn put_figures(out: &mut [u8], at: usize, m: u64, b: u64) -> usize
-    requires { ⌜ Fits m × Fits b × (at + length (line (pos m ∷ pos b ∷ [])) ≤ length (now out)) ⌝ }
-    ensures { λ r. ⌜ Put (now (out .entry)) at (line (pos m ∷ pos b ∷ [])) (now (out .exit)) r ⌝ }
-{
-    let t = [m + 1000000000000, b + 1000000000000];
-    decimals::put_numbers(out, at, &t)
-}
-
-// The line of an axis.
-fn put_axis(out: &mut [u8], at: usize, name: &[u8], axis: Axis) -> usize
-    requires { ⌜ FitsAxis axis × (at + length (axisLine (now name) (judged axis)) ≤ length (now out)) ⌝ }
-    ensures { λ r. ⌜ Put (now (out .entry)) at (axisLine (now (name .entry)) (judged axis)) (now (out .exit)) r ⌝ }
-{
-    let i = decimals::put_fixed(out, at, name);
-    let j = put_either(out, i, axis.within, b"WITHIN ", b"BEYOND ");
-    put_figures(out, j, axis.m, axis.b)
-}
-
-// Both lines, and PASS or FAIL.
-fn put_verdicts(out: &mut [u8], xy: Axis, h: Axis) -> usize
-    requires { ⌜ FitsAxis xy × FitsAxis h × (length (verdictText (judged xy) (judged h)) ≤ length (now out)) ⌝ }
-    ensures { λ r. ⌜ Put (now (out .entry)) 0 (verdictText (judged xy) (judged h)) (now (out .exit)) r ⌝ }
-{
-    let i = put_axis(out, 0, b"XY ", xy);
-    let j = put_axis(out, i, b"H ", h);
-    if xy.within {
-        return put_either(out, j, h.within, b"PASS\n", b"FAIL\n");
-    }
-    decimals::put_fixed(out, j, b"FAIL\n")
-}
-
 // REFUSED and the numbers.
 fn put_refusal(out: &mut [u8], refusal: u64, series: u64, set: u64, quantity: u64) -> usize
     requires { ⌜ Fits refusal × Fits series × Fits set × Fits quantity × (length (refusalText refusal (suspect series set quantity)) ≤ length (now out)) ⌝ }
     ensures { λ r. ⌜ Put (now (out .entry)) 0 (refusalText refusal (suspect series set quantity)) (now (out .exit)) r ⌝ }
 {
-    let i = decimals::put_fixed(out, 0, b"REFUSED ");
+    let i = printing::put_fixed(out, 0, b"REFUSED ");
     if refusal == 11 {
         let t = [
             refusal + 1000000000000,
@@ -79,10 +27,10 @@ fn put_refusal(out: &mut [u8], refusal: u64, series: u64, set: u64, quantity: u6
             set + 1000000000000,
             quantity + 1000000000000,
         ];
-        return decimals::put_numbers(out, i, &t);
+        return printing::put_numbers(out, i, &t);
     }
     let t = [refusal + 1000000000000];
-    decimals::put_numbers(out, i, &t)
+    printing::put_numbers(out, i, &t)
 }
 
 // The report of an evaluation's answer.
@@ -92,7 +40,7 @@ pub fn report(refusal: u64, series: u64, set: u64, quantity: u64, xy: Axis, h: A
 {
     let mut bytes = [0u8; 80];
     if refusal == 0 {
-        let len = put_verdicts(&mut bytes, xy, h);
+        let len = verdicts::put_verdicts(&mut bytes, xy, h);
         return Printed { bytes, len };
     }
     let len = put_refusal(&mut bytes, refusal, series, set, quantity);

@@ -1,7 +1,6 @@
-use native.Mathlib.Omega.{arith}
-use mathlib.Core.Path.{_≡_, ap, _∙_}
+use mathlib.Core.Path.{ap, _∙_}
 use Rattle.report.specs.Given.{held}
-use Rattle.fieldbook.proofs.Numbers.{file-prints, refusal-fits, suspect-fits, printed-is, printed-fits}
+use Rattle.fieldbook.proofs.Numbers.{file-prints, printed-is, printed-fits}
 use borrow.Author.Needs.{needs}
 use Rattle.fieldbook.proofs.report_file.Statement.{statement}
 use Rattle.fieldbook.proofs.report_file.Tie as tie

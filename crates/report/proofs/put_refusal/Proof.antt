@@ -7,7 +7,9 @@ use Rattle.decimals.specs.Ascii.{ascii}
 use Rattle.decimals.specs.Numbers.{line}
 use Rattle.report.specs.Text.{REFUSED, refusalNumbers, refusalText}
 use Rattle.report.specs.Given.{suspect}
-use Rattle.report.proofs.Pieces.{first-fits, second-fits, both, starts, put-as, room-as, lens-up, numbers-suspect, numbers-other}
+use Rattle.printing.proofs.Rows.{put-as, room-as}
+use Rattle.verdicts.proofs.Pieces.{first-fits, second-fits, both, starts, lens-up}
+use Rattle.report.proofs.Pieces.{numbers-suspect, numbers-other}
 use Rattle.report.proofs.put_refusal.Statement.{statement}
 use Rattle.report.proofs.put_refusal.Tie as tie
 

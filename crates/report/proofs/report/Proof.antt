@@ -1,8 +1,10 @@
 -- `report::report`: by the refusal, into a row of zeros.
 -- Assumes nothing.
 use borrow.Author.Needs.{needs}
-use Rattle.report.specs.Given.{judged, suspect}
-use Rattle.report.proofs.Pieces.{text-accepted, text-refused, long-verdicts, long-refusal, held-is}
+use Rattle.verdicts.specs.Given.{judged}
+use Rattle.verdicts.proofs.Pieces.{long-verdicts}
+use Rattle.report.specs.Given.{suspect}
+use Rattle.report.proofs.Pieces.{text-accepted, text-refused, long-refusal, held-is}
 use Rattle.report.proofs.report.Statement.{statement}
 use Rattle.report.proofs.report.Tie as tie
 

@@ -1,0 +1,118 @@
+-- `contents::formed`: the table, the terms, the bodies, and the end.
+-- Assumes nothing.
+use borrow.Author.Needs.{needs}
+use mathlib.Core.Path.{_∙_}
+use Rattle.decimals.proofs.Steps.{then-got, then-bad}
+use Rattle.fieldfile.specs.Reader.{whole}
+use Rattle.contents.proofs.Steps.{not-formed, no-bodies, formed-more, formed-all}
+use Rattle.contents.proofs.formed.Statement.{statement}
+use Rattle.contents.proofs.formed.Tie as tie
+
+table-at-requires : tie.Need-table-at-requires
+table-at-requires c κs = search needs
+
+enum-known-a : tie.Need-enum-known-a
+enum-known-a c = search needs
+
+enum-told : tie.Need-enum-told
+enum-told c = search needs
+
+returns : tie.Need-returns
+unfolding whole
+returns c =
+    not-formed (then-bad _ (c .before .before .table-at .ensures .fail (c .enum-told .given .1)))
+
+numbers-at-requires : tie.Need-numbers-at-requires
+numbers-at-requires c κs =
+    (c .before .before .before .before .table-at .ensures .good _ _ _ _ (c .before .before .a .given .1) .1, search needs)
+
+enum-known-j : tie.Need-enum-known-j
+enum-known-j c = search needs
+
+enum-told-2 : tie.Need-enum-told-2
+enum-told-2 c = search needs
+
+same-length : tie.Need-same-length
+same-length c = search needs
+
+returns-2 : tie.Need-returns-2
+unfolding whole
+returns-2 c =
+    let e = c .before .before .before .before .before .before .before .before .before .table-at .ensures .good _ _ _ _ (c .before .before .before .before .before .before .before .a .given .1) in
+    not-formed (then-got _ (e .0) ∙ then-bad _ (c .before .before .before .before .numbers-at .ensures .fail (c .enum-told2 .given .1)))
+
+bodies-at-requires : tie.Need-bodies-at-requires
+bodies-at-requires c κs =
+    (c .before .before .before .before .before .before .numbers-at .ensures .good _ _ (c .before .before .j .given .1) .to, search needs)
+
+enum-known-k : tie.Need-enum-known-k
+enum-known-k c = search needs
+
+enum-told-3 : tie.Need-enum-told-3
+enum-told-3 c = search needs
+
+same-length-2 : tie.Need-same-length-2
+same-length-2 c = search needs
+
+same-length-3 : tie.Need-same-length-3
+same-length-3 c = search needs
+
+returns-3 : tie.Need-returns-3
+returns-3 c =
+    let e = c .before .before .before .before .before .before .before .before .before .before .before .before .before .before .before .before .table-at .ensures .good _ _ _ _ (c .before .before .before .before .before .before .before .before .before .before .before .before .before .before .a .given .1) in
+    let g = c .before .before .before .before .before .before .before .before .before .before .before .numbers-at .ensures .good _ _ (c .before .before .before .before .before .before .before .j .given .1) in
+    not-formed (no-bodies _ (e .0) g (c .before .before .before .before .bodies-at .ensures .fail (c .enum-told3 .given .1)))
+
+same-length-4 : tie.Need-same-length-4
+same-length-4 c = search needs
+
+same-length-5 : tie.Need-same-length-5
+same-length-5 c = search needs
+
+returns-4 : tie.Need-returns-4
+returns-4 c =
+    let a = c .before .before .before .before .before .before .before .before .before .before .before .before .before .before .before .before .before .before .before .before .before .before .args in
+    let e = c .before .before .before .before .before .before .before .before .before .before .before .before .before .before .before .before .before .before .table-at .ensures .good _ _ _ _ (c .before .before .before .before .before .before .before .before .before .before .before .before .before .before .before .before .a .given .1) in
+    let g = c .before .before .before .before .before .before .before .before .before .before .before .before .before .numbers-at .ensures .good _ _ (c .before .before .before .before .before .before .before .before .before .j .given .1) in
+    let h = c .before .before .before .before .before .before .bodies-at .ensures .good _ _ (c .before .before .k .given .1) in
+    formed-all (a .s .now) (e .0) (a .terms .now) _ (a .cells .now) _ g h (c .if1 .taken) (c .before .before .before .before .before .before .before .before .before .before .before .before .before .before .before .before .before .before .before .before .before .before .pre .0) (c .before .before .before .before .before .before .before .before .before .before .before .before .before .before .before .before .before .before .before .before .before .before .pre .1)
+
+same-length-6 : tie.Need-same-length-6
+same-length-6 c = search needs
+
+same-length-7 : tie.Need-same-length-7
+same-length-7 c = search needs
+
+returns-5 : tie.Need-returns-5
+returns-5 c =
+    let a = c .before .before .before .before .before .before .before .before .before .before .before .before .before .before .before .before .before .before .before .before .before .before .args in
+    let e = c .before .before .before .before .before .before .before .before .before .before .before .before .before .before .before .before .before .before .table-at .ensures .good _ _ _ _ (c .before .before .before .before .before .before .before .before .before .before .before .before .before .before .before .before .a .given .1) in
+    let g = c .before .before .before .before .before .before .before .before .before .before .before .before .before .numbers-at .ensures .good _ _ (c .before .before .before .before .before .before .before .before .before .j .given .1) in
+    let h = c .before .before .before .before .before .before .bodies-at .ensures .good _ _ (c .before .before .k .given .1) in
+    not-formed (formed-more (a .s .now) (e .0) (a .terms .now) _ (a .cells .now) _ g h (c .if1 .left))
+
+pub formed-spec : {M : Type 1} → statement M
+formed-spec =
+    tie.close
+    (tie.spec
+    table-at-requires
+    enum-known-a
+    enum-told
+    returns
+    numbers-at-requires
+    enum-known-j
+    enum-told-2
+    same-length
+    returns-2
+    bodies-at-requires
+    enum-known-k
+    enum-told-3
+    same-length-2
+    same-length-3
+    returns-3
+    same-length-4
+    same-length-5
+    returns-4
+    same-length-6
+    same-length-7
+    returns-5)

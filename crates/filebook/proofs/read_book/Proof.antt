@@ -1,0 +1,71 @@
+use mathlib.Core.Path.{ap, _∙_}
+use Rattle.form.proofs.Laws.{known}
+use Rattle.book.specs.declared.Book.{Book}
+use Rattle.book.specs.Steps.{step}
+use Rattle.filebook.proofs.Ways.{unread, was-read, way-form, way-terms, way-far, way-book}
+use borrow.Author.Needs.{needs}
+use Rattle.filebook.proofs.read_book.Statement.{statement}
+use Rattle.filebook.proofs.read_book.Tie as tie
+use Rattle.filebook.proofs.read_book.Reads as reads
+use Rattle.filebook.proofs.read_book.Lts as lts
+use Rattle.filebook.proofs.filled.Reads as filled-reads
+use Rattle.filebook.proofs.refused.Reads as refused-reads
+use Rattle.contents.proofs.read.Reads as read-reads
+use Rattle.places.proofs.all_near.Reads as all-near-reads
+use Rattle.ranges.proofs.in_range.Reads as in-range-reads
+
+read-requires : tie.Need-read-requires
+read-requires c κs = search needs
+
+in-range-requires : tie.Need-in-range-requires
+in-range-requires c κs = search needs
+
+all-near-requires : tie.Need-all-near-requires
+all-near-requires c κs = search needs
+
+filled-requires : tie.Need-filled-requires
+filled-requires c κs = search needs
+
+returns : tie.Need-returns
+returns c =
+    let d = was-read _ _ (c .before .before .before .before .before .before .before .before .before .before .before .read .ensures) (c .before .before .before .before .before .before .before .before .if1 .taken) in
+    ap (λ (b : Book). step 0 b) (c .filled .ensures) ∙ way-book _ _ d (known (c .before .before .before .before .before .before .in-range .ensures) (c .before .before .before .before .before .if2 .taken)) (known (c .before .before .all-near .ensures) (c .before .if3 .taken))
+
+refused-requires : tie.Need-refused-requires
+refused-requires c κs = search needs
+
+returns-2 : tie.Need-returns-2
+returns-2 c =
+    let d = was-read _ _ (c .before .before .before .before .before .before .before .before .before .before .before .read .ensures) (c .before .before .before .before .before .before .before .before .if1 .taken) in
+    c .refused .ensures ∙ way-far _ _ d (known (c .before .before .before .before .before .before .in-range .ensures) (c .before .before .before .before .before .if2 .taken)) (known (c .before .before .all-near .ensures) (c .before .if3 .left))
+
+refused-requires-2 : tie.Need-refused-requires-2
+refused-requires-2 c κs = search needs
+
+returns-3 : tie.Need-returns-3
+returns-3 c =
+    let d = was-read _ _ (c .before .before .before .before .before .before .before .read .ensures) (c .before .before .before .before .if1 .taken) in
+    c .refused2 .ensures ∙ way-terms _ _ d (known (c .before .before .in-range .ensures) (c .before .if2 .left))
+
+refused-requires-3 : tie.Need-refused-requires-3
+refused-requires-3 c κs = search needs
+
+returns-4 : tie.Need-returns-4
+returns-4 c =
+    c .refused3 .ensures ∙ way-form _ (unread _ _ (c .before .before .before .before .read .ensures) (c .before .if1 .left))
+
+pub read-book-spec : {M : Type 1} → statement M
+read-book-spec =
+    tie.close
+    (tie.spec
+    read-requires
+    in-range-requires
+    all-near-requires
+    filled-requires
+    returns
+    refused-requires
+    returns-2
+    refused-requires-2
+    returns-3
+    refused-requires-3
+    returns-4)

@@ -1,0 +1,93 @@
+-- The reader of the table of contents, step by step, as the code goes.
+-- Assumes nothing.
+use Prim.Native.Nat.{ℕ, _-_, _<_, _≤_}
+use mathlib.Core.Path.{_≡_, refl, sym, _∙_}
+use mathlib.Core.List.{List, _++_}
+use native.Mathlib.Omega.{arith}
+use borrow.Author.Tests.{le-leb, lt-leb}
+use lib.ListN.{length, drop}
+use lib.IntN.{ℤ, pos, negsuc}
+use Rattle.image.specs.Lengths.{word}
+use Rattle.decimals.specs.Reader.{Parsed, got, bad, fixed}
+use Rattle.decimals.specs.Given.{Got, Nothing}
+use Rattle.decimals.proofs.Steps.{then-got, then-bad}
+use Rattle.fieldfile.specs.Form.{CONTENTS, TERMS, SERIES1, SERIES2, SERIES3}
+use Rattle.fieldfile.specs.Reader.{upTo10, count, table}
+use Rattle.table.specs.Given.{Count, Tabled}
+use Rattle.table.specs.declared.Counts.the-variants.{Of, Bad}
+
+-- ---- counts
+
+module _ (v : ℤ) (z : ℕ) (r : List ℕ) (e : z ≡ word v) where
+  pub count-low : z < 1_000_000_000_000 → upTo10 v r ≡ bad
+  unfolding upTo10 word
+  count-low = go v e
+    where
+      go : (v : ℤ) → z ≡ word v → z < 1_000_000_000_000 → upTo10 v r ≡ bad
+      go (pos n) e h = absurd (omega arith)
+      go (negsuc n) e h = refl
+
+  pub count-high : 1_000_000_000_010 < z → upTo10 v r ≡ bad
+  unfolding upTo10 word
+  count-high = go v e
+    where
+      go : (v : ℤ) → z ≡ word v → 1_000_000_000_010 < z → upTo10 v r ≡ bad
+      go (pos n) e h = rw (lt-leb n 10 (omega arith))
+      go (negsuc n) e h = refl
+
+  pub count-is : 1_000_000_000_000 ≤ z → z ≤ 1_000_000_000_010 → upTo10 v r ≡ got (z - 1_000_000_000_000) r
+  unfolding upTo10 word
+  count-is = go v e
+    where
+      go : (v : ℤ) → z ≡ word v → 1_000_000_000_000 ≤ z → z ≤ 1_000_000_000_010 → upTo10 v r ≡ got (z - 1_000_000_000_000) r
+      go (pos n) e h k = let f : z - 1_000_000_000_000 ≡ n = omega arith in rw (f, le-leb n 10 (omega arith))
+      go (negsuc n) e h k = absurd (omega arith)
+
+-- ---- the table of contents
+
+yes-table : {s : List ℕ} {a b c n : ℕ} {p : Parsed (ℕ × ℕ × ℕ)} (u v w : ℕ) → p ≡ got (u, v, w) (drop n s) → a ≡ u → b ≡ v → c ≡ w → n ≤ length s → Tabled s (Of a b c n) p
+yes-table {s} {a} {b} {c} {n} {p} u v w e ea eb ec h = record { good = same; fail = never }
+  where
+    same : (i j k m : ℕ) → Of a b c n ≡ Of i j k m → (p ≡ got (i, j, k) (drop m s)) × (m ≤ length s)
+    same i j k m f =
+        let x : u ≡ i = sym ea ∙ cc in
+        let y : v ≡ j = sym eb ∙ cc in
+        let z : w ≡ k = sym ec ∙ cc in
+        let q : n ≡ m = cc in
+        rw (← x, ← y, ← z, ← q) (e, h)
+
+    never : Of a b c n ≡ Bad → p ≡ bad
+    never f = let z : _≡_ {A = ℕ} 0 1 = cc in absurd (omega arith)
+
+not-table : {s : List ℕ} {p : Parsed (ℕ × ℕ × ℕ)} → p ≡ bad → Tabled s Bad p
+not-table {s} {p} e = record { good = never; fail = λ f. e }
+  where
+    never : (a b c n : ℕ) → Bad ≡ Of a b c n → (p ≡ got (a, b, c) (drop n s)) × (n ≤ length s)
+    never a b c n f = let z : _≡_ {A = ℕ} 0 1 = cc in absurd (omega arith)
+
+-- the fixed string, then each count: where it stops, and where all are there
+module _ (s : List ℕ) where
+  pub no-head : fixed (CONTENTS ++ TERMS) s ≡ bad → Tabled s Bad (table s)
+  unfolding table
+  no-head e = not-table (then-bad _ e)
+
+  module _ {w i : ℕ} (f : Got Nothing s 0 w i (fixed (CONTENTS ++ TERMS) s)) where
+    pub no-first : count SERIES1 (drop i s) ≡ bad → Tabled s Bad (table s)
+    unfolding table
+    no-first e = not-table (then-got _ (f .reads) ∙ then-bad _ e)
+
+    module _ {x j : ℕ} (g : Got Count s i x j (count SERIES1 (drop i s))) where
+      pub no-second : count SERIES2 (drop j s) ≡ bad → Tabled s Bad (table s)
+      unfolding table
+      no-second e = not-table (then-got _ (f .reads) ∙ (then-got _ (g .reads) ∙ then-bad _ e))
+
+      module _ {y k : ℕ} (h : Got Count s j y k (count SERIES2 (drop j s))) where
+        pub no-third : count SERIES3 (drop k s) ≡ bad → Tabled s Bad (table s)
+        unfolding table
+        no-third e = not-table (then-got _ (f .reads) ∙ (then-got _ (g .reads) ∙ (then-got _ (h .reads) ∙ then-bad _ e)))
+
+        pub all-counts : {z n : ℕ} → Got Count s k z n (count SERIES3 (drop k s)) → Tabled s (Of x y z n) (table s)
+        unfolding table
+        all-counts e =
+            yes-table (g .value) (h .value) (e .value) (then-got _ (f .reads) ∙ (then-got _ (g .reads) ∙ (then-got _ (h .reads) ∙ then-got _ (e .reads))))
+            (g .holds) (h .holds) (e .holds) (e .to)

@@ -1,0 +1,78 @@
+-- `verdicts::put_verdicts`: two lines, and the last by both flags.
+-- Assumes nothing.
+use Prim.Native.Nat.{ℕ}
+use borrow.Author.Needs.{needs}
+use mathlib.Core.Path.{_∙_}
+use mathlib.Core.Bool.{cond, _&&_}
+use mathlib.Core.List.{List}
+use Rattle.decimals.specs.Ascii.{ascii}
+use Rattle.verdicts.specs.Text.{XY, H, PASS, FAIL, axisLine, verdictText}
+use Rattle.verdicts.specs.Given.{judged}
+use Rattle.verdicts.specs.declared.Axis.{Axis}
+use Rattle.verdicts.proofs.Pieces.{first-fits, second-fits, two-fit, third-fits, all-three, starts}
+use Rattle.verdicts.proofs.put_verdicts.Statement.{statement}
+use Rattle.verdicts.proofs.put_verdicts.Tie as tie
+
+abbrev lineXY : Axis → List ℕ
+lineXY a = axisLine XY (judged a)
+
+abbrev lineH : Axis → List ℕ
+lineH a = axisLine H (judged a)
+
+abbrev last : Axis → Axis → List ℕ
+last a b = cond (a .within && b .within) PASS FAIL
+
+slice-aggregate-put-axis : tie.Need-slice-aggregate-put-axis
+slice-aggregate-put-axis c = search needs
+
+put-axis-requires : tie.Need-put-axis-requires
+unfolding verdictText ascii
+put-axis-requires c κs =
+    let a = c .before .before .before .args in
+    let p = c .before .before .before .pre in
+    (p .0, first-fits (a .out .now) 0 (lineXY (a .xy)) (lineH (a .h)) (two-fit (a .out .now) 0 (lineXY (a .xy)) (lineH (a .h)) (last (a .xy) (a .h)) (starts (p .2))))
+
+slice-aggregate-put-axis-2 : tie.Need-slice-aggregate-put-axis-2
+slice-aggregate-put-axis-2 c = search needs
+
+put-axis-requires-2 : tie.Need-put-axis-requires-2
+unfolding verdictText ascii
+put-axis-requires-2 c κs =
+    let a = c .before .before .before .before .before .before .before .before .args in
+    let p = c .before .before .before .before .before .before .before .before .pre in
+    (p .1, second-fits (a .out .now) 0 (lineXY (a .xy)) (lineH (a .h)) (two-fit (a .out .now) 0 (lineXY (a .xy)) (lineH (a .h)) (last (a .xy) (a .h)) (starts (p .2))) (c .before .before .before .before .put-axis .ensures) (c .before .before .before .before .put-axis .kept .0))
+
+slice-aggregate-put-either : tie.Need-slice-aggregate-put-either
+slice-aggregate-put-either c = search needs
+
+slice-aggregate-put-either-2 : tie.Need-slice-aggregate-put-either-2
+slice-aggregate-put-either-2 c = search needs
+
+put-either-requires : tie.Need-put-either-requires
+unfolding verdictText ascii
+put-either-requires c κs =
+    let a = c .before .before .before .before .before .before .before .before .before .before .before .before .before .before .before .before .args in
+    third-fits (a .out .now) 0 (lineXY (a .xy)) (lineH (a .h)) (last (a .xy) (a .h)) (starts (c .before .before .before .before .before .before .before .before .before .before .before .before .before .before .before .before .pre .2)) (c .before .before .before .before .before .before .before .before .before .before .before .before .put-axis .ensures) (c .before .before .before .before .before .before .before .put-axis2 .ensures) (c .before .before .before .before .before .before .before .put-axis2 .kept .0 ∙ c .before .before .before .before .before .before .before .before .before .before .before .before .put-axis .kept .0)
+
+same-length : tie.Need-same-length
+same-length c = search needs
+
+returns : tie.Need-returns
+unfolding verdictText ascii
+returns c =
+    let a = c .before .before .before .before .before .before .before .before .before .before .before .before .before .before .before .before .before .before .before .args in
+    all-three (a .out .now) 0 (lineXY (a .xy)) (lineH (a .h)) (last (a .xy) (a .h)) (starts (c .before .before .before .before .before .before .before .before .before .before .before .before .before .before .before .before .before .before .before .pre .2)) (c .before .before .before .before .before .before .before .before .before .before .before .before .before .before .before .put-axis .ensures) (c .before .before .before .before .before .before .before .before .before .before .put-axis2 .ensures) (c .before .before .put-either .ensures)
+
+pub put-verdicts-spec : {M : Type 1} → statement M
+put-verdicts-spec =
+    tie.close
+    (tie.spec
+    slice-aggregate-put-axis
+    put-axis-requires
+    slice-aggregate-put-axis-2
+    put-axis-requires-2
+    slice-aggregate-put-either
+    slice-aggregate-put-either-2
+    put-either-requires
+    same-length
+    returns)
