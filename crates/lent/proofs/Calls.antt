@@ -1,13 +1,13 @@
 -- The ways out of a call.
 -- Assumes nothing.
-use Prim.Native.Nat.{ℕ, zero, suc, _+_, _-_, _*_, _≤_, _<_}
+use Prim.Native.Nat.{ℕ, zero, suc, _-_, _*_, _≤_}
 use native.Mathlib.Omega.{arith}
 use mathlib.Core.Path.{_≡_, refl, sym, ap, _∙_, subst}
-use mathlib.Core.Logic.{_⊎_, inl, inr, ⊎-elim}
-use mathlib.Core.Bool.{Bool, true, false, cond, not, _&&_}
+use mathlib.Core.Logic.{_≢_}
+use mathlib.Core.Bool.{Bool, true, false, cond, not}
 use mathlib.Core.Option.{Option, none, some, Option·map}
-use mathlib.Core.List.{List, [], _∷_}
-use lib.ListN.{length, getD}
+use mathlib.Core.List.{List}
+use lib.ListN.{length}
 use lib.Dec.{eqb}
 use borrow.Author.Tests.{eq-eqb, ne-eqb, eqb-true}
 use Rattle.paper.specs.Procedure.{BOOKS}
@@ -20,7 +20,6 @@ use Rattle.paper.specs.Alone.{refusedAlone, next, askedAlone}
 use Rattle.paper.specs.Form.{formedO, InForm}
 use Rattle.paper.proofs.Tests.{among}
 use Rattle.paper.proofs.History.{formed-next}
-use Rattle.words.specs.Words.{bytesOf}
 use Rattle.words.specs.Paste.{pasted}
 use Rattle.image.specs.Changes.{zeros}
 use Rattle.book.specs.declared.Book.{Book}
@@ -28,7 +27,7 @@ use Rattle.book.specs.declared.Step.{Step}
 use Rattle.book.specs.Meaning.{bookOf, meant, blank, bookForm, seen}
 use Rattle.book.specs.Steps.{step, stepOf}
 use Rattle.book.proofs.Meaning.{seen-in}
-use Rattle.lent.specs.Image.{BOOK, LENGTH, wordsOf, bookBytes, image, bookAt, meantFrom, inForm, stateOf}
+use Rattle.lent.specs.Image.{BOOK, LENGTH, bookBytes, image, bookAt, meantFrom, inForm, stateOf}
 use Rattle.lent.specs.Calls.{shut, callOn, called, Calls, pickedOf, unformed, foundOf, turnedAway, placedAt}
 use Rattle.lent.proofs.Image.{Bytes, form-length, form-at, book-at, formed-in, image-set, state-in, state-out, form-image-is, form-state}
 
@@ -120,31 +119,19 @@ module _ (k : ℕ) where
 
 -- ---- an act on the book of a number
 
+not-one : (i : Bool) (m n : ℕ) → m ≢ 1 → n ≢ 1 → cond (not i) m n ≢ 1
+not-one true m n u v = v
+not-one false m n u v = u
+
 -- no act on a closed book meets 1
-closed-meets : (a : Act) → refusedAlone a (some none) ≡ 1 → ⊥
+closed-meets : (a : Act) → refusedAlone a (some none) ≢ 1
 unfolding refusedAlone rules lowest
-closed-meets (begin t) e = go (inRange t) e
-  where
-    go : (i : Bool) → _≡_ {A = ℕ} (cond (not i) 4 0) 1 → ⊥
-    go true w = omega (arith, w)
-    go false w = omega (arith, w)
-closed-meets strike e = omega (arith, e)
-closed-meets (enter p v) e = go (inSheet p) e
-  where
-    go : (i : Bool) → _≡_ {A = ℕ} (cond (not i) 2 5) 1 → ⊥
-    go true w = omega (arith, w)
-    go false w = omega (arith, w)
-closed-meets (correct p v) e = go (inSheet p) e
-  where
-    go : (i : Bool) → _≡_ {A = ℕ} (cond (not i) 2 5) 1 → ⊥
-    go true w = omega (arith, w)
-    go false w = omega (arith, w)
-closed-meets (withdraw p) e = go (inSheet p) e
-  where
-    go : (i : Bool) → _≡_ {A = ℕ} (cond (not i) 2 5) 1 → ⊥
-    go true w = omega (arith, w)
-    go false w = omega (arith, w)
-closed-meets takeBack e = omega (arith, e)
+closed-meets (begin t) = not-one (inRange t) 4 0 (λ e. omega (arith, e)) (λ e. omega (arith, e))
+closed-meets strike = λ e. omega (arith, e)
+closed-meets (enter p v) = not-one (inSheet p) 2 5 (λ e. omega (arith, e)) (λ e. omega (arith, e))
+closed-meets (correct p v) = not-one (inSheet p) 2 5 (λ e. omega (arith, e)) (λ e. omega (arith, e))
+closed-meets (withdraw p) = not-one (inSheet p) 2 5 (λ e. omega (arith, e)) (λ e. omega (arith, e))
+closed-meets takeBack = λ e. omega (arith, e)
 
 module _ (bs : List ℕ) (k : ℕ) (a : Act) (y : Bytes bs) where
   module _ (b : Book) (f : Found bs k b) where

@@ -6,17 +6,17 @@ use native.Mathlib.Nat.{zero-add}
 use mathlib.Core.Path.{_≡_, refl, sym, ap, _∙_}
 use mathlib.Core.Bool.{Bool, true, false, cond, not, _||_}
 use mathlib.Core.Option.{Option, none, some, Option·map}
-use mathlib.Core.List.{List, [], _∷_, _++_}
+use mathlib.Core.List.{List, _++_}
 use lib.ListN.{length, take, drop, replicate}
 use lib.Seq.{length-take-le}
-use lib.Dec.{eqb, ltb}
+use lib.Dec.{ltb}
 use borrow.Author.Tests.{eq-eqb, ne-eqb, lt-ltb, le-ltb}
 use Rattle.paper.specs.Procedure.{BOOKS}
 use Rattle.paper.specs.Units.{Place, oneTo, inSheet}
 use Rattle.paper.specs.Books as paper
 use Rattle.paper.specs.Calls.{Question, fresh, ask, read, changes, residual, evaluate, compare, passList}
 use Rattle.paper.specs.TurnedAway.{lowest, questioned, evaluating, isClosed, noBook, passing}
-use Rattle.paper.specs.Answers.{Answer, answered, given, beside, suspectIn, nowhere, says, after}
+use Rattle.paper.specs.Answers.{answered, given, beside, suspectIn, nowhere, says, after}
 use Rattle.paper.specs.Alone.{askedAlone, comparedAlone}
 use Rattle.words.specs.Paste.{pasted}
 use Rattle.book.specs.declared.Book.{Book}

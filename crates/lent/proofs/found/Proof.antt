@@ -1,4 +1,3 @@
-use mathlib.Core.Path.{_∙_}
 use Rattle.form.proofs.Laws.{known}
 use Rattle.lent.specs.Calls.{foundOf}
 use borrow.Author.Needs.{needs}
