@@ -3,7 +3,7 @@ use Prim.Native.Nat.{ℕ, _≤_}
 use mathlib.Core.Path.{_≡_}
 use mathlib.Core.Logic.{_↔_, _≢_}
 use mathlib.Core.Bool.{true}
-use mathlib.Core.Option.{Option, none, some, Option·map}
+use mathlib.Core.Option.{Option, none, some}
 use mathlib.Core.List.{List}
 use lib.ListN.{getD}
 use Rattle.paper.specs.Procedure.{BOOKS, KEPT}
@@ -12,14 +12,11 @@ use Rattle.paper.specs.Books.{Register, Sight, sights}
 use Rattle.paper.specs.Calls.{takeBack, read, Call, on, ask}
 use Rattle.paper.specs.Answers.{lengths, Answer, nowhere, says}
 use Rattle.paper.specs.Form.{InForm}
-use Rattle.paper.specs.History.{leaves, Story, told, history, about}
+use Rattle.paper.specs.History.{leaves, Story, history, about}
+use Rattle.paper.specs.Claim.{foretold}
 use Rattle.lent.specs.Image.{image, stateOf}
 use Rattle.lent.specs.Calls.{called}
 use Rattle.history.specs.Runs.{answerOn, ran, seenIn, Only}
-
--- what the histories say is to be seen of each book after the calls cs, where its story before them was `start`
-abbrev pub foretold : (ℕ → Option Story) → List Call → ℕ → Option Sight
-foretold start cs k = Option·map told (history k (start k) cs)
 
 -- the bytes are the image of a register in form, and its books are seen so
 pub record Stands (bs : List ℕ) (sight : ℕ → Option Sight) : Type 0 where

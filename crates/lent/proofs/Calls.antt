@@ -1,80 +1,139 @@
 -- The ways out of a call.
 -- Assumes nothing.
-use Prim.Native.Nat.{ℕ, zero, suc, _+_, _-_, _*_, _≤_, _<_}
+use Prim.Native.Nat.{ℕ, zero, suc, _-_, _*_, _≤_}
 use native.Mathlib.Omega.{arith}
 use mathlib.Core.Path.{_≡_, refl, sym, ap, _∙_, subst}
-use mathlib.Core.Logic.{_⊎_, inl, inr, ⊎-elim}
-use mathlib.Core.Bool.{Bool, true, false, cond, not, _&&_}
+use mathlib.Core.Logic.{_≢_}
+use mathlib.Core.Bool.{Bool, true, false, cond, not}
 use mathlib.Core.Option.{Option, none, some, Option·map}
-use mathlib.Core.List.{List, [], _∷_}
-use lib.ListN.{length, getD}
+use mathlib.Core.List.{List}
+use lib.ListN.{length}
 use lib.Dec.{eqb}
-use borrow.Author.Tests.{eq-eqb, ne-eqb}
+use borrow.Author.Tests.{eq-eqb, ne-eqb, eqb-true}
 use Rattle.paper.specs.Procedure.{BOOKS}
-use Rattle.paper.specs.Units.{oneTo}
+use Rattle.paper.specs.Units.{oneTo, inRange, inSheet}
 use Rattle.paper.specs.Books as paper
-use Rattle.paper.specs.Calls.{Act, Question, Call, fresh, on, ask, effect, affected}
+use Rattle.paper.specs.Calls.{Act, begin, strike, enter, correct, withdraw, takeBack, Question, Call, fresh, on, ask, effect, affected}
 use Rattle.paper.specs.TurnedAway.{lowest, rules, refusal}
-use Rattle.paper.specs.Answers.{unless, Answer, says, after}
+use Rattle.paper.specs.Answers.{unless, Answer, answered, says, after}
 use Rattle.paper.specs.Alone.{refusedAlone, next, askedAlone}
 use Rattle.paper.specs.Form.{formedO, InForm}
 use Rattle.paper.proofs.Tests.{among}
 use Rattle.paper.proofs.History.{formed-next}
-use Rattle.words.specs.Words.{bytesOf}
 use Rattle.words.specs.Paste.{pasted}
+use Rattle.image.specs.Changes.{zeros}
 use Rattle.book.specs.declared.Book.{Book}
 use Rattle.book.specs.declared.Step.{Step}
-use Rattle.book.specs.Meaning.{bookOf, meant, bookForm, seen}
+use Rattle.book.specs.Meaning.{bookOf, meant, blank, bookForm, seen}
 use Rattle.book.specs.Steps.{step, stepOf}
 use Rattle.book.proofs.Meaning.{seen-in}
-use Rattle.lent.specs.Image.{BOOK, LENGTH, wordsOf, bookBytes, image, bookAt, meantFrom, inForm, stateOf}
-use Rattle.lent.specs.Calls.{Out, out, shut, callOn, called, Calls, foundOf, placedAt}
+use Rattle.lent.specs.Image.{BOOK, LENGTH, bookBytes, image, bookAt, meantFrom, inForm, stateOf}
+use Rattle.lent.specs.Calls.{shut, callOn, called, Calls, pickedOf, unformed, foundOf, turnedAway, placedAt}
 use Rattle.lent.proofs.Image.{Bytes, form-length, form-at, book-at, formed-in, image-set, state-in, state-out, form-image-is, form-state}
 
--- ---- a book is found, or not
+-- ---- the book of a number
 
 pub record Found (bs : List ℕ) (k : ℕ) (b : Book) : Type 0 where
   pub formed : inForm bs ≡ true
   pub among : oneTo BOOKS k ≡ true
   pub there : b ≡ bookAt bs ((k - 1) * BOOK)
 
+-- in bytes in form, the book itself, or a closed one where the number is no book's
+pub data Within (bs : List ℕ) (k : ℕ) (b : Book) : Type 0 where
+  found : Found bs k b → Within bs k b
+  elsewhere : oneTo BOOKS k ≡ false → b ≡ bookOf none → Within bs k b
+
+-- of bytes not in form, a book not in form
+pub data Way (bs : List ℕ) (k : ℕ) (b : Book) : Type 0 where
+  within : inForm bs ≡ true → Within bs k b → Way bs k b
+  without : inForm bs ≡ false → seen b ≡ none → Way bs k b
+
 module _ (bs : List ℕ) (k : ℕ) where
-  abbrev way : Bool → Bool → Step
-  way i j = cond i (cond j (step 0 (bookAt bs ((k - 1) * BOOK))) (step 2 (bookOf none))) (step 1 (bookOf none))
+  abbrev standing : Book
+  standing = bookAt bs ((k - 1) * BOOK)
 
-  pub found-is : (f : Step) → f ≡ foundOf bs k → f .refusal ≡ 0 → Found bs k (f .book)
-  unfolding foundOf
-  found-is f e z = go (inForm bs) (oneTo BOOKS k) refl refl e
-    where
-      go : (i j : Bool) → inForm bs ≡ i → oneTo BOOKS k ≡ j → f ≡ way i j → Found bs k (f .book)
-      go true true u v w = record { formed = u; among = v; there = ap (λ (s : Step). s .book) w }
-      go true false u v w = absurd (omega (arith, sym z ∙ ap (λ (s : Step). s .refusal) w))
-      go false j u v w = absurd (omega (arith, sym z ∙ ap (λ (s : Step). s .refusal) w))
+  picked-in : inForm bs ≡ true → pickedOf bs k ≡ cond (oneTo BOOKS k) standing (bookOf none)
+  unfolding pickedOf
+  picked-in u = rw (eq-eqb (length bs) LENGTH (form-length bs u))
 
-  -- REGISTER and PLACE
-  pub found-not : (f : Step) → f ≡ foundOf bs k → (f .refusal ≡ 0 → ⊥) → ((f .refusal ≡ 1) × (inForm bs ≡ false)) ⊎ ((f .refusal ≡ 2) × (inForm bs ≡ true) × (oneTo BOOKS k ≡ false))
-  unfolding foundOf
-  found-not f e n = go (inForm bs) (oneTo BOOKS k) refl refl e
+  pub picked-way : (b : Book) → b ≡ pickedOf bs k → inForm bs ≡ true → Within bs k b
+  picked-way b e u = go (oneTo BOOKS k) refl (e ∙ picked-in u)
     where
-      go : (i j : Bool) → inForm bs ≡ i → oneTo BOOKS k ≡ j → f ≡ way i j → ((f .refusal ≡ 1) × (inForm bs ≡ false)) ⊎ ((f .refusal ≡ 2) × (inForm bs ≡ true) × (oneTo BOOKS k ≡ false))
-      go true true u v w = absurd (n (ap (λ (s : Step). s .refusal) w))
-      go true false u v w = inr (ap (λ (s : Step). s .refusal) w, u, v)
-      go false j u v w = inl (ap (λ (s : Step). s .refusal) w, u)
+      go : (j : Bool) → oneTo BOOKS k ≡ j → b ≡ cond j standing (bookOf none) → Within bs k b
+      go true v w = found (record { formed = u; among = v; there = w })
+      go false v w = elsewhere v w
+
+  pub found-way : (b : Book) → b ≡ foundOf bs k → Way bs k b
+  unfolding foundOf seen bookForm
+  found-way b e = go (inForm bs) refl e
+    where
+      go : (i : Bool) → inForm bs ≡ i → b ≡ cond i (pickedOf bs k) (unformed (pickedOf bs k)) → Way bs k b
+      go true u w = within u (picked-way b w u)
+      go false u w = without u (rw w)
+
+  range : (b : Book) → Found bs k b → (1 ≤ k) × (k ≤ BOOKS)
+  range b f = among BOOKS k (f .among)
+
+  found-form : (b : Book) → Found bs k b → bookForm b ≡ true
+  found-form b f = rw (f .there) (form-at bs (k - 1) (f .formed) (omega (arith, range b f .0, range b f .1)))
+
+  pub found-seen : (b : Book) → Found bs k b → seen b ≡ some (meant b)
+  found-seen b f = seen-in b (found-form b f)
+
+  pub found-meant : (b : Book) → Found bs k b → paper.book (meantFrom BOOKS bs) k ≡ meant b
+  found-meant b f = book-at bs k (range b f .0) (range b f .1) ∙ ap meant (sym (f .there))
+
+pub closed-seen : seen (bookOf none) ≡ some none
+unfolding seen bookForm blank meant bookOf zeros
+closed-seen = refl
+
+pub within-seen : (bs : List ℕ) (k : ℕ) (b : Book) → Within bs k b → seen b ≡ some (meant b)
+unfolding meant bookOf
+within-seen bs k b (found f) = found-seen bs k b f
+within-seen bs k b (elsewhere e w) = rw (w, closed-seen)
+
+-- ---- turned away
+
+module _ (k : ℕ) where
+  pub away-outside : (n : ℕ) → oneTo BOOKS k ≡ false → (n ≡ 1 → ⊥) → turnedAway k n ≡ 2
+  unfolding turnedAway
+  away-outside n e h = rw (ne-eqb n 1 h, e)
+
+  pub away-among : (n : ℕ) → oneTo BOOKS k ≡ true → turnedAway k n ≡ n
+  unfolding turnedAway
+  away-among n e = rw e (go (eqb n 1) refl)
+    where
+      go : (i : Bool) → eqb n 1 ≡ i → cond i 1 n ≡ n
+      go true i = sym (eqb-true n 1 i)
+      go false i = refl
+
+  -- a call is accepted where the number is a book's and the book met nothing
+  pub away-not : (n r : ℕ) → r ≡ turnedAway k n → r ≡ 0 → (1 ≤ k) × (k ≤ BOOKS) × (n ≡ 0)
+  unfolding turnedAway
+  away-not n r e z = go (eqb n 1) (oneTo BOOKS k) refl (sym e ∙ z)
+    where
+      go : (i j : Bool) → oneTo BOOKS k ≡ j → cond i 1 (cond j n 2) ≡ 0 → (1 ≤ k) × (k ≤ BOOKS) × (n ≡ 0)
+      go true j v w = absurd (omega (arith, w))
+      go false true v w = let h = among BOOKS k v in (h .0, h .1, w)
+      go false false v w = absurd (omega (arith, w))
 
 -- ---- an act on the book of a number
 
-pub found-range : (bs : List ℕ) (k : ℕ) (b : Book) → Found bs k b → (length bs ≡ LENGTH) × (1 ≤ k) × (k ≤ BOOKS)
-found-range bs k b f = let h = among BOOKS k (f .among) in (form-length bs (f .formed), h .0, h .1)
+not-one : (i : Bool) (m n : ℕ) → m ≢ 1 → n ≢ 1 → cond (not i) m n ≢ 1
+not-one true m n u v = v
+not-one false m n u v = u
+
+-- no act on a closed book meets 1
+closed-meets : (a : Act) → refusedAlone a (some none) ≢ 1
+unfolding refusedAlone rules lowest
+closed-meets (begin t) = not-one (inRange t) 4 0 (λ e. omega (arith, e)) (λ e. omega (arith, e))
+closed-meets strike = λ e. omega (arith, e)
+closed-meets (enter p v) = not-one (inSheet p) 2 5 (λ e. omega (arith, e)) (λ e. omega (arith, e))
+closed-meets (correct p v) = not-one (inSheet p) 2 5 (λ e. omega (arith, e)) (λ e. omega (arith, e))
+closed-meets (withdraw p) = not-one (inSheet p) 2 5 (λ e. omega (arith, e)) (λ e. omega (arith, e))
+closed-meets takeBack = λ e. omega (arith, e)
 
 module _ (bs : List ℕ) (k : ℕ) (a : Act) (y : Bytes bs) where
-  pub act-refused : (f : Step) → f ≡ foundOf bs k → (f .refusal ≡ 0 → ⊥) → Calls (on k a) bs (f .refusal) bs
-  unfolding called callOn shut says after refusal lowest
-  act-refused f e n =
-      ⊎-elim
-      (λ (w : (f .refusal ≡ 1) × (inForm bs ≡ false)). (rw (w .0, state-out bs (w .1)), rw (state-out bs (w .1))))
-      (λ (w : (f .refusal ≡ 2) × (inForm bs ≡ true) × (oneTo BOOKS k ≡ false)). (rw (w .0, state-in bs (w .1), w .2), rw (state-in bs (w .1), w .2) (sym (form-image-is bs y (w .1)))))
-      (found-not bs k f e n)
-
   module _ (b : Book) (f : Found bs k b) where
     abbrev r : paper.Register
     r = meantFrom BOOKS bs
@@ -82,25 +141,16 @@ module _ (bs : List ℕ) (k : ℕ) (a : Act) (y : Bytes bs) where
     abbrev o : Option paper.Book
     o = paper.book r k
 
-    range : (1 ≤ k) × (k ≤ BOOKS)
-    range = among BOOKS k (f .among)
-
-    at : o ≡ meant b
-    at = book-at bs k (range .0) (range .1) ∙ ap meant (sym (f .there))
-
-    form : bookForm b ≡ true
-    form = rw (f .there) (form-at bs (k - 1) (f .formed) (omega (arith, range .0, range .1)))
-
     step-is : stepOf a b ≡ step (lowest (rules a (Option·map paper.sight o))) (bookOf (unless (lowest (rules a (Option·map paper.sight o))) (affected (effect a) o) o))
     unfolding stepOf refusedAlone next
-    step-is = rw (seen-in b form, at)
+    step-is = rw (found-seen bs k b f, found-meant bs k b f)
 
     refusal-is : refusal k a (paper.sights r k) ≡ lowest (rules a (Option·map paper.sight o))
     unfolding refusal lowest paper.sights
     refusal-is = rw (f .among)
 
     put-is : (p : Option paper.Book) → formedO p ≡ true → placedAt bs k (bookOf p) ≡ image (paper.put r k p)
-    put-is p g = go k range
+    put-is p g = go k (range bs k b f)
       where
         v : InForm r
         v = form-state bs (f .formed)
@@ -125,26 +175,57 @@ module _ (bs : List ℕ) (k : ℕ) (a : Act) (y : Bytes bs) where
         go (suc n) e = sym (form-image-is bs y (f .formed))
         go zero e = put-is (affected (effect a) o) (formed-next a o (form-state bs (f .formed) .every k) e)
 
+  -- what an act does, by what was found
+  pub acted : (b : Book) (s : Step) (r : ℕ) (bs′ : List ℕ) → b ≡ foundOf bs k → s ≡ stepOf a b → (r ≡ turnedAway k (s .refusal)) × (bs′ ≡ unless (turnedAway k (s .refusal)) (placedAt bs k (s .book)) bs) → Calls (on k a) bs r bs′
+  unfolding called callOn shut says after refusal lowest stepOf refusedAlone turnedAway
+  acted b s r bs′ e es (er, eb) = let d = go (found-way bs k b e) in (er ∙ d .0, d .1)
+    where
+      go : Way bs k b → Calls (on k a) bs (turnedAway k (s .refusal)) bs′
+      go (within u (found f)) =
+          let z = away-among k (s .refusal) (f .among) in
+          let d = act-done b f s bs′ es (eb ∙ ap (λ (n : ℕ). unless n (placedAt bs k (s .book)) bs) z) in
+          (z ∙ d .0, d .1)
+      go (within u (elsewhere v w)) =
+          let n : turnedAway k (s .refusal) ≡ 2 = away-outside k (s .refusal) v (λ m. closed-meets a (sym (ap (λ (q : Step). q .refusal) es ∙ rw (w, closed-seen)) ∙ m)) in
+          (n ∙ rw (state-in bs u, v), eb ∙ rw n (rw (state-in bs u, v) (sym (form-image-is bs y u))))
+      go (without u v) =
+          let n : turnedAway k (s .refusal) ≡ 1 = rw (es, v) in
+          (n ∙ rw (state-out bs u), eb ∙ rw n (rw (state-out bs u)))
+
+-- an accepted act's register is of the right length
+pub accepted-length : (bs : List ℕ) (k : ℕ) (a : Act) (b : Book) (s : Step) → b ≡ foundOf bs k → s ≡ stepOf a b → s .refusal ≡ 0 → length bs ≡ LENGTH
+unfolding stepOf refusedAlone
+accepted-length bs k a b s e es z = go (found-way bs k b e)
+  where
+    go : Way bs k b → length bs ≡ LENGTH
+    go (within u w) = form-length bs u
+    go (without u v) = let n : s .refusal ≡ 1 = rw (es, v) in absurd (omega (arith, z, n))
+
 -- ---- a question of the book of a number
 
-module _ {A : Type 0} (bs : List ℕ) (k : ℕ) (q : ℕ → Question) (flat : Answer → A) where
-  pub ask-refused : (shown : ℕ → A) → ((s : ℕ → Option paper.Sight) → oneTo BOOKS k ≡ false → flat (says (ask (q k)) s) ≡ shown 2) → flat (shut (ask (q k))) ≡ shown 1
-      → (f : Step) → f ≡ foundOf bs k → (f .refusal ≡ 0 → ⊥) → shown (f .refusal) ≡ flat (called (ask (q k)) bs .answer)
-  unfolding called callOn
-  ask-refused shown outside unformed f e n =
-      ⊎-elim
-      (λ (w : (f .refusal ≡ 1) × (inForm bs ≡ false)). rw (w .0, state-out bs (w .1)) (sym unformed))
-      (λ (w : (f .refusal ≡ 2) × (inForm bs ≡ true) × (oneTo BOOKS k ≡ false)). rw (w .0, state-in bs (w .1)) (sym (outside _ (w .2))))
-      (found-not bs k f e n)
+-- an answer of the book of that number, by what the book met
+unfoldable pub turned : ℕ → Answer → Answer
+turned k a = record { refused = turnedAway k (a .refused); suspect = a .suspect; value = a .value }
 
-  pub ask-done : ((s : ℕ → Option paper.Sight) → oneTo BOOKS k ≡ true → says (ask (q k)) s ≡ says (ask (q 1)) (λ i. s k))
-      → (b : Book) → Found bs k b → flat (askedAlone q (seen b)) ≡ flat (called (ask (q k)) bs .answer)
-  unfolding called callOn askedAlone paper.sights
-  ask-done same b f =
-      let h = among BOOKS k (f .among) in
-      let at : paper.book (meantFrom BOOKS bs) k ≡ meant b = book-at bs k (h .0) (h .1) ∙ ap meant (sym (f .there)) in
-      let form : bookForm b ≡ true = rw (f .there) (form-at bs (k - 1) (f .formed) (omega (arith, h .0, h .1))) in
-      rw (seen-in b form, state-in bs (f .formed), same (paper.sights (meantFrom BOOKS bs)) (f .among), at)
+pub turned-among : (k : ℕ) (a : Answer) → oneTo BOOKS k ≡ true → turned k a ≡ a
+unfolding turned
+turned-among k a e = rw (away-among k (a .refused) e)
+
+-- a question of one book: it makes no difference which, and outside the sixteen it is answered as of a closed one, but with 2
+pub record OfOne (q : ℕ → Question) : Type 0 where
+  pub alone : (k : ℕ) (s : ℕ → Option paper.Sight) → oneTo BOOKS k ≡ true → says (ask (q k)) s ≡ says (ask (q 1)) (λ i. s k)
+  pub outside : (k : ℕ) (s : ℕ → Option paper.Sight) → oneTo BOOKS k ≡ false → turned k (says (ask (q 1)) (λ i. none)) ≡ says (ask (q k)) s
+  pub not-formed : (k : ℕ) → answered 1 (q 1) (λ i. none) ≡ answered 1 (q k) (λ i. none)
+
+pub asked : (bs : List ℕ) (k : ℕ) (q : ℕ → Question) → OfOne q → (b : Book) → b ≡ foundOf bs k → turned k (askedAlone q (seen b)) ≡ called (ask (q k)) bs .answer
+unfolding called callOn shut askedAlone paper.sights turned turnedAway
+asked bs k q o b e = go (found-way bs k b e)
+  where
+    go : Way bs k b → turned k (askedAlone q (seen b)) ≡ called (ask (q k)) bs .answer
+    go (within u (found f)) =
+        turned-among k (askedAlone q (seen b)) (f .among) ∙ rw (found-seen bs k b f, state-in bs u, o .alone k (paper.sights (meantFrom BOOKS bs)) (f .among), found-meant bs k b f)
+    go (within u (elsewhere v w)) = rw (w, closed-seen, state-in bs u) (o .outside k (paper.sights (meantFrom BOOKS bs)) v)
+    go (without u v) = rw (v, state-out bs u) (o .not-formed k)
 
 -- ---- what the shape promises of every call
 
@@ -183,9 +264,9 @@ pub one-outcome : (c : Call) (bs : List ℕ) (r₁ r₂ : ℕ) (b₁ b₂ : List
 one-outcome c bs r₁ r₂ b₁ b₂ e f = (e .0 ∙ sym (f .0), e .1 ∙ sym (f .1))
 
 -- nothing is written beside a refusal
-pub kept-back : (n : ℕ) (new old : List ℕ) → (n ≡ 0 → ⊥) → old ≡ unless n new old
-kept-back zero new old h = absurd (h refl)
-kept-back (suc n) new old h = refl
+pub kept-back : (n r : ℕ) (new old : List ℕ) → r ≡ n → (r ≡ 0 → ⊥) → (r ≡ n) × (old ≡ unless n new old)
+kept-back zero r new old e h = absurd (h e)
+kept-back (suc n) r new old e h = (e, refl)
 
-pub written : (n : ℕ) (new old bs : List ℕ) → n ≡ 0 → bs ≡ new → bs ≡ unless n new old
-written n new old bs z e = rw (z, e)
+pub written : (n r : ℕ) (new old bs : List ℕ) → r ≡ n → r ≡ 0 → bs ≡ new → (0 ≡ n) × (bs ≡ unless n new old)
+written n r new old bs e z w = let m : n ≡ 0 = sym e ∙ z in (sym m, rw (m, w))

@@ -16,7 +16,7 @@ use Rattle.paper.specs.Books as paper
 use Rattle.paper.specs.Form.{formedO, InForm}
 use Rattle.paper.proofs.Tests.{and-left, and-right, and-both}
 use Rattle.paper.proofs.Form.{parts}
-use Rattle.words.specs.Words.{le, words, bytesOf}
+use Rattle.words.specs.Words.{le, words, digits, bytesOf}
 use Rattle.words.specs.Paste.{pasted}
 use Rattle.words.proofs.Words.{length-words, length-bytesOf, bytesOf-words, words-add}
 use Rattle.words.proofs.Paste.{words-take}
@@ -299,3 +299,28 @@ state-image bs r y e = go (inForm bs) refl e
     go true u w =
         let q : meantFrom BOOKS bs ≡ r = cc in
         (subst (λ (s : paper.Register). image s ≡ bs) q (form-image-is bs y u), subst (λ (s : paper.Register). InForm s) q (form-state bs u))
+
+-- ---- a fresh register
+
+zero-bytes : (n : ℕ) → bytesOf (replicate n 0) ≡ replicate (8 * n) 0
+unfolding bytesOf digits
+zero-bytes zero = refl
+zero-bytes (suc n) = let e : 8 * suc n ≡ suc (suc (suc (suc (suc (suc (suc (suc (8 * n)))))))) = omega arith in rw (e, zero-bytes n)
+
+closed-bytes : bookBytes none ≡ replicate BOOK 0
+unfolding bookOf wordsOf
+closed-bytes = zero-bytes 232
+
+zeros-add : (n m : ℕ) → _≡_ {A = List ℕ} (replicate n 0 ++ replicate m 0) (replicate (n + m) 0)
+zeros-add zero m = rw zero-add
+zeros-add (suc n) m = let e : suc n + m ≡ suc (n + m) = omega arith in rw e (ap (λ (l : List ℕ). 0 ∷ l) (zeros-add n m))
+
+closed-image : (n : ℕ) → image (replicate n none) ≡ replicate (BOOK * n) 0
+unfolding image
+closed-image zero = refl
+closed-image (suc n) = let e : BOOK * suc n ≡ BOOK + BOOK * n = omega arith in rw (closed-bytes, closed-image n, zeros-add BOOK (BOOK * n), e)
+
+-- a fresh register's bytes: all zero
+pub fresh-image : image paper.closed ≡ replicate LENGTH 0
+unfolding paper.closed
+fresh-image = closed-image BOOKS

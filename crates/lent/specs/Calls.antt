@@ -2,9 +2,9 @@
 -- of the register that the bytes hold, and the bytes afterwards are the image of the register after the call.
 use Prim.Native.Nat.{ℕ, _-_, _*_}
 use mathlib.Core.Path.{_≡_}
-use mathlib.Core.Bool.{cond}
+use mathlib.Core.Bool.{cond, _&&_}
 use mathlib.Core.Option.{Option, none, some}
-use mathlib.Core.List.{List, [], _∷_}
+use mathlib.Core.List.{List}
 use lib.ListN.{length}
 use lib.Dec.{eqb}
 use Rattle.paper.specs.Procedure.{BOOKS}
@@ -15,9 +15,7 @@ use Rattle.paper.specs.Answers.{done, Answer, nowhere, answered, says, after}
 use Rattle.words.specs.Words.{bytesOf}
 use Rattle.words.specs.Paste.{pasted}
 use Rattle.book.specs.declared.Book.{Book}
-use Rattle.book.specs.declared.Step.{Step}
 use Rattle.book.specs.Meaning.{bookOf}
-use Rattle.book.specs.Steps.{step}
 use Rattle.lent.specs.Image.{BOOK, LENGTH, wordsOf, image, bookAt, inForm, stateOf}
 
 -- the answer to a call, and the register's bytes after it
@@ -50,9 +48,20 @@ Calls c bs r bs′ = (r ≡ called c bs .answer .refused) × (bs′ ≡ called c
 
 -- ---- steps of the code
 
--- 1 or 2; or the book of that number
-unfoldable pub foundOf : List ℕ → ℕ → Step
-foundOf bs k = cond (inForm bs) (cond (oneTo BOOKS k) (step 0 (bookAt bs ((k - 1) * BOOK))) (step 2 (bookOf none))) (step 1 (bookOf none))
+-- the book of that number as its bytes stand; a closed one where the bytes have none
+unfoldable pub pickedOf : List ℕ → ℕ → Book
+pickedOf bs k = cond (eqb (length bs) LENGTH && oneTo BOOKS k) (bookAt bs ((k - 1) * BOOK)) (bookOf none)
+
+-- no book in form begins so
+abbrev pub unformed : Book → Book
+unformed b = record { opened = 2; terms = b .terms; cells = b .cells; kept = b .kept; changes = b .changes }
+
+unfoldable pub foundOf : List ℕ → ℕ → Book
+foundOf bs k = cond (inForm bs) (pickedOf bs k) (unformed (pickedOf bs k))
+
+-- 1 (REGISTER), then 2 (PLACE), then what the book met
+unfoldable pub turnedAway : ℕ → ℕ → ℕ
+turnedAway k met = cond (eqb met 1) 1 (cond (oneTo BOOKS k) met 2)
 
 -- the bytes with this book under that number
 abbrev pub placedAt : List ℕ → ℕ → Book → List ℕ

@@ -8,7 +8,7 @@ ghost use Rattle.paper.specs.Answers.{unless};
 ghost use Rattle.words.specs.Words.{bytesOf};
 ghost use Rattle.words.specs.Paste.{pasted};
 ghost use Rattle.lent.specs.Image.{BOOK, LENGTH, wordsOf, bookAt, inForm};
-ghost use Rattle.lent.specs.Calls.{foundOf, placedAt};
+ghost use Rattle.lent.specs.Calls.{pickedOf, foundOf, turnedAway, placedAt};
 use book::Book;
 use book::Step;
 use paper::Procedure;
@@ -85,48 +85,53 @@ pub fn is_book(book: u64) -> bool
     book <= Procedure::BOOKS as u64
 }
 
-// The book of that number.
+// The book of that number, in form or not; a closed one where the bytes have none.
 pub fn picked(register: &[u8], book: u64) -> Book
-    requires { ⌜ (length (now register) ≡ LENGTH) × (1 ≤ book) × (book ≤ BOOKS) ⌝ }
-    ensures { λ r. ⌜ r ≡ bookAt (now (register .entry)) ((book - 1) * BOOK) ⌝ }
+    ensures { λ r. ⌜ r ≡ pickedOf (now (register .entry)) book ⌝ }
 {
-    let a = ((book - 1) as usize) * Layout::BOOK;
-    load(register, a)
+    if register.len() != Layout::REGISTER {
+        return book::closed();
+    }
+    if is_book(book) {
+        return load(register, ((book - 1) as usize) * Layout::BOOK);
+    }
+    book::closed()
 }
 
-// The book of that number; or REGISTER or PLACE.
-pub fn found(register: &[u8], book: u64) -> Step
+// The same; of a register that is not in form it is made a book that is not, and any call on that is refused with REGISTER.
+pub fn found(register: &[u8], book: u64) -> Book
     ensures { λ r. ⌜ r ≡ foundOf (now (register .entry)) book ⌝ }
 {
+    let mut b = picked(register, book);
     if formed(register) {
-        if is_book(book) {
-            return Step {
-                refusal: 0,
-                book: picked(register, book),
-            };
-        }
-        return Step {
-            refusal: 2,
-            book: book::closed(),
-        };
+        return b;
     }
-    Step {
-        refusal: 1,
-        book: book::closed(),
+    b.opened = 2;
+    b
+}
+
+// What a call on the book of that number is refused by, where the book met this: REGISTER comes first, then PLACE.
+pub fn turned_away(book: u64, met: u64) -> u64
+    ensures { λ r. ⌜ r ≡ turnedAway book met ⌝ }
+{
+    if met == 1 {
+        return 1;
     }
+    if is_book(book) {
+        return met;
+    }
+    2
 }
 
 // The next book put back under its number; beside a refusal nothing is written.
 pub fn put_back(register: &mut [u8], book: u64, s: Step) -> u64
-    requires { ⌜ (length (now register) ≡ LENGTH) × (1 ≤ book) × (book ≤ 16) ⌝ }
-    ensures { λ r. ⌜ (r ≡ s .refusal) × (now (register .exit) ≡ unless (s .refusal) (placedAt (now (register .entry)) book (s .book)) (now (register .entry))) ⌝ }
+    requires { ⌜ (s .refusal ≡ 0 → length (now register) ≡ LENGTH) ⌝ }
+    ensures { λ r. ⌜ (r ≡ turnedAway book (s .refusal)) × (now (register .exit) ≡ unless (turnedAway book (s .refusal)) (placedAt (now (register .entry)) book (s .book)) (now (register .entry))) ⌝ }
 {
-    let refusal = s.refusal;
-    let next = s.book;
+    let refusal = turned_away(book, s.refusal);
     if refusal != 0 {
         return refusal;
     }
-    let a = ((book - 1) as usize) * Layout::BOOK;
-    store(register, a, next);
+    store(register, ((book - 1) as usize) * Layout::BOOK, s.book);
     0
 }

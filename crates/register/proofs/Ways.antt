@@ -1,126 +1,134 @@
 -- The ways out of the exported calls, where crate `lent` does not have them already.
 -- Assumes nothing.
-use Prim.Native.Nat.{ℕ, zero, suc, _+_, _-_, _*_, _≤_, _<_}
+use Prim.Native.Nat.{ℕ, _≤_, _<_}
 use native.Mathlib.Omega.{arith}
 use native.Mathlib.Nat.{zero-add}
-use mathlib.Core.Path.{_≡_, refl, sym, ap, _∙_, subst}
-use mathlib.Core.Logic.{_⊎_, ⊎-elim}
+use mathlib.Core.Path.{_≡_, refl, sym, ap, _∙_}
 use mathlib.Core.Bool.{Bool, true, false, cond, not, _||_}
 use mathlib.Core.Option.{Option, none, some, Option·map}
-use mathlib.Core.List.{List, [], _∷_, _++_}
-use lib.ListN.{length, take, drop, replicate, length-replicate}
+use mathlib.Core.List.{List, _++_}
+use lib.ListN.{length, take, drop, replicate}
 use lib.Seq.{length-take-le}
-use lib.Dec.{eqb, ltb}
+use lib.Dec.{ltb}
 use borrow.Author.Tests.{eq-eqb, ne-eqb, lt-ltb, le-ltb}
 use Rattle.paper.specs.Procedure.{BOOKS}
-use Rattle.paper.specs.Units.{zeros, Place, oneTo}
+use Rattle.paper.specs.Units.{Place, oneTo, inSheet}
 use Rattle.paper.specs.Books as paper
-use Rattle.paper.specs.Calls.{fresh, ask, read, changes, residual, evaluate, compare, passList}
-use Rattle.paper.specs.TurnedAway.{lowest, questioned, noBook, passing}
-use Rattle.paper.specs.Answers.{given, beside, suspectIn, says, after}
-use Rattle.paper.specs.Alone.{comparedAlone}
-use Rattle.paper.proofs.Tests.{among}
-use Rattle.words.specs.Words.{digits, bytesOf}
+use Rattle.paper.specs.Calls.{Question, fresh, ask, read, changes, residual, evaluate, compare, passList}
+use Rattle.paper.specs.TurnedAway.{lowest, questioned, evaluating, isClosed, noBook, passing}
+use Rattle.paper.specs.Answers.{answered, given, beside, suspectIn, nowhere, says, after}
+use Rattle.paper.specs.Alone.{askedAlone, comparedAlone}
 use Rattle.words.specs.Paste.{pasted}
 use Rattle.book.specs.declared.Book.{Book}
-use Rattle.book.specs.declared.Step.{Step}
-use Rattle.book.specs.Meaning.{bookOf, meant, bookForm, seen}
-use Rattle.book.specs.Steps.{lengthsBy, lengthsOf, countBy, countOf}
-use Rattle.book.proofs.Meaning.{seen-in}
-use Rattle.evaluation.specs.Evaluating.{judgementOf, notJudged}
-use Rattle.evaluation.specs.Comparing.{comparedOf, notCompared}
-use Rattle.evaluation.proofs.Asked.{evaluate-refused, compare-refused}
-use Rattle.lent.specs.Image.{BOOK, LENGTH, wordsOf, bookBytes, image, bookAt, meantFrom, inForm, stateOf}
-use Rattle.lent.specs.Calls.{shut, callOn, called, Calls, foundOf}
-use Rattle.lent.proofs.Image.{form-at, book-at, state-in, state-out}
-use Rattle.lent.proofs.Calls.{Found, found-not}
-use Rattle.register.specs.Answers.{listAfter}
+use Rattle.book.specs.declared.Lengths.{Lengths}
+use Rattle.book.specs.declared.Count.{Count}
+use Rattle.book.specs.Meaning.{meant, seen}
+use Rattle.book.specs.Steps.{lengthsOf, countBy, countOf}
+use Rattle.evaluation.specs.declared.Evaluated.{Evaluated}
+use Rattle.evaluation.specs.declared.Compared.{Compared}
+use Rattle.evaluation.specs.Evaluating.{judgementOf, doubled}
+use Rattle.evaluation.specs.Comparing.{comparedOf}
+use Rattle.lent.specs.Image.{LENGTH, meantFrom, inForm}
+use Rattle.lent.specs.Calls.{shut, callOn, called, Calls, pickedOf, foundOf, turnedAway}
+use Rattle.lent.proofs.Image.{state-in, state-out, fresh-image}
+use Rattle.lent.proofs.Calls.{Within, found, elsewhere, Way, within, without, within-seen, picked-way, found-way, found-seen, found-meant, closed-seen, turned, turned-among, OfOne, asked}
+use Rattle.register.specs.Answers.{plainOf, evaluationOf, plainlyOf, comparisonOf, listAfter}
 
--- ---- a question of one book: outside the sixteen, and as of book 1 of a register with it
+-- ---- a question of one book
 
-module _ (k : ℕ) (s : ℕ → Option paper.Sight) where
-  module _ (e : oneTo BOOKS k ≡ true) where
-    pub read-alone : (p : Place) → says (ask (read k p)) s ≡ says (ask (read 1 p)) (λ i. s k)
-    unfolding says lowest questioned given beside suspectIn
-    read-alone p = rw e
+-- outside the sixteen a closed book is asked, and 2 (PLACE) comes before what that meets
+away : (k : ℕ) (q q′ : Question) (t s : ℕ → Option paper.Sight) (i : Bool) → oneTo BOOKS k ≡ false → beside q ≡ beside q′ → turned k (answered (cond i 2 5) q t) ≡ answered 2 q′ s
+unfolding turned turnedAway
+away k q q′ t s true e b = rw (e, b)
+away k q q′ t s false e b = rw (e, b)
 
-    pub changes-alone : says (ask (changes k)) s ≡ says (ask (changes 1)) (λ i. s k)
-    unfolding says lowest questioned given beside suspectIn
-    changes-alone = rw e
+pub reads : (p : Place) → OfOne (λ k. read k p)
+unfolding says lowest questioned given beside suspectIn
+reads p = record { alone = λ k s e. rw e; outside = λ k s e. rw e (away k (read 1 p) (read k p) (λ i. none) s (not (inSheet p)) e refl); not-formed = λ k. refl }
 
-    pub residual-alone : (p : Place) → says (ask (residual k p)) s ≡ says (ask (residual 1 p)) (λ i. s k)
-    unfolding says lowest questioned given beside suspectIn
-    residual-alone p = rw e
+pub counts : OfOne changes
+unfolding says lowest questioned given beside suspectIn
+counts = record { alone = λ k s e. rw e; outside = λ k s e. rw e (away k (changes 1) (changes k) (λ i. none) s false e refl); not-formed = λ k. refl }
 
-    pub evaluate-alone : says (ask (evaluate k)) s ≡ says (ask (evaluate 1)) (λ i. s k)
-    unfolding says lowest questioned given beside suspectIn
-    evaluate-alone = rw e
+pub residues : (p : Place) → OfOne (λ k. residual k p)
+unfolding says lowest questioned given beside suspectIn
+residues p = record { alone = λ k s e. rw e; outside = λ k s e. rw e (away k (residual 1 p) (residual k p) (λ i. none) s (not (inSheet p)) e refl); not-formed = λ k. refl }
 
-  module _ (e : oneTo BOOKS k ≡ false) where
-    pub read-outside : (p : Place) → lengthsOf (says (ask (read k p)) s) ≡ lengthsBy 2 zeros
-    unfolding lengthsOf says lowest questioned beside
-    read-outside p = rw e
+pub evaluates : OfOne evaluate
+unfolding says lowest questioned evaluating given beside suspectIn
+evaluates = record { alone = λ k s e. rw e; outside = λ k s e. rw e (away k (evaluate 1) (evaluate k) (λ i. none) s false e refl); not-formed = λ k. refl }
 
-    pub changes-outside : countOf (says (ask (changes k)) s) ≡ countBy 2 0
-    unfolding countOf says lowest questioned beside
-    changes-outside = rw e
+module _ (bs : List ℕ) (k : ℕ) (q : ℕ → Question) (o : OfOne q) (b : Book) (f : b ≡ foundOf bs k) (r : ℕ) where
+  pub lengths-asked : (l : Lengths) → l ≡ lengthsOf (askedAlone q (seen b)) → r ≡ turnedAway k (l .refusal) → record { refusal = r; x = l .x; y = l .y; h = l .h } ≡ lengthsOf (called (ask (q k)) bs .answer)
+  unfolding lengthsOf turned
+  lengths-asked l e w = rw (w, e) (ap lengthsOf (asked bs k q o b f))
 
-    pub residual-outside : (p : Place) → lengthsOf (says (ask (residual k p)) s) ≡ lengthsBy 2 zeros
-    unfolding lengthsOf says lowest questioned beside
-    residual-outside p = rw e
+  pub count-asked : (n : Count) → n ≡ countOf (askedAlone q (seen b)) → r ≡ turnedAway k (n .refusal) → record { refusal = r; count = n .count } ≡ countOf (called (ask (q k)) bs .answer)
+  unfolding countOf turned
+  count-asked n e w = rw (w, e) (ap countOf (asked bs k q o b f))
 
-    pub evaluate-outside : judgementOf (says (ask (evaluate k)) s) ≡ notJudged 2 0 0 0
-    unfolding says lowest questioned
-    evaluate-outside = rw e (evaluate-refused 2 (λ z. omega arith) (λ z. omega arith) s k)
-
-pub lengths-shut : (k : ℕ) (p : Place) → (lengthsOf (shut (ask (read k p))) ≡ lengthsBy 1 zeros) × (lengthsOf (shut (ask (residual k p))) ≡ lengthsBy 1 zeros)
-unfolding lengthsOf shut beside
-lengths-shut k p = (refl, refl)
-
-pub count-shut : (k : ℕ) → countOf (shut (ask (changes k))) ≡ countBy 1 0
-unfolding countOf shut beside
-count-shut k = refl
-
-pub evaluate-shut : (k : ℕ) → judgementOf (shut (ask (evaluate k))) ≡ notJudged 1 0 0 0
-unfolding shut
-evaluate-shut k = evaluate-refused 1 (λ z. omega arith) (λ z. omega arith) (λ i. none) k
+  pub evaluation-asked : (v : Evaluated) → v ≡ doubled (judgementOf (askedAlone q (seen b))) → r ≡ turnedAway k (v .refusal)
+      → plainOf (record { refusal = r; series = v .series; set = v .set; quantity = v .quantity; sheet = v .sheet; xy = v .xy; h = v .h }) ≡ evaluationOf (called (ask (q k)) bs .answer)
+  unfolding evaluationOf doubled judgementOf turned
+  evaluation-asked v e w = rw (w, e) (ap evaluationOf (asked bs k q o b f))
 
 -- ---- a comparison
 
 module _ (bs : List ℕ) (j k axis : ℕ) where
-  outside : (s : ℕ → Option paper.Sight) → noBook j || noBook k ≡ true → comparedOf (says (ask (compare j k axis)) s) ≡ notCompared 2 0 0 0
+  abbrev s : ℕ → Option paper.Sight
+  s = paper.sights (meantFrom BOOKS bs)
+
+  one-closed : (i : ℕ) (o p : Option paper.Book) → oneTo BOOKS i ≡ false → isClosed (Option·map paper.sight o) || isClosed (Option·map paper.sight p) ≡ true
+      → turned i (comparedAlone axis (some o) (some p)) ≡ answered 2 (compare j k axis) s
+  unfolding comparedAlone says lowest questioned beside
+  one-closed i o p e c = rw c (away i (compare 1 2 axis) (compare j k axis) _ s (not (oneTo 2 axis)) e refl)
+
+  no-book : noBook j || noBook k ≡ true → answered 2 (compare j k axis) s ≡ says (ask (compare j k axis)) s
   unfolding says lowest questioned
-  outside s e = rw e (compare-refused 2 (λ z. omega arith) (λ z. omega arith) s j k axis)
+  no-book e = rw e
 
-  pub first-not-found : (f : Step) → f ≡ foundOf bs j → (f .refusal ≡ 0 → ⊥) → notCompared (f .refusal) 0 0 0 ≡ comparedOf (called (ask (compare j k axis)) bs .answer)
-  unfolding called callOn shut
-  first-not-found f e n =
-      ⊎-elim
-      (λ (w : (f .refusal ≡ 1) × (inForm bs ≡ false)). rw (w .0, state-out bs (w .1)) (sym (compare-refused 1 (λ z. omega arith) (λ z. omega arith) (λ i. none) j k axis)))
-      (λ (w : (f .refusal ≡ 2) × (inForm bs ≡ true) × (oneTo BOOKS j ≡ false)). rw (w .0, state-in bs (w .1)) (sym (outside (paper.sights (meantFrom BOOKS bs)) (rw (w .2)))))
-      (found-not bs j f e n)
+  both-in : (o p : Option paper.Book) → paper.book (meantFrom BOOKS bs) j ≡ o → paper.book (meantFrom BOOKS bs) k ≡ p → oneTo BOOKS j ≡ true → oneTo BOOKS k ≡ true
+      → comparedAlone axis (some o) (some p) ≡ says (ask (compare j k axis)) s
+  unfolding comparedAlone says lowest questioned given beside suspectIn paper.sights
+  both-in o p u v e f = rw (← u, ← v, e, f)
 
-  pub second-outside : (a : Book) → Found bs j a → oneTo BOOKS k ≡ false → notCompared 2 0 0 0 ≡ comparedOf (called (ask (compare j k axis)) bs .answer)
-  unfolding called callOn
-  second-outside a f e = rw (state-in bs (f .formed)) (sym (outside (paper.sights (meantFrom BOOKS bs)) (rw (f .among, e))))
+  -- 2 of the first number stays, whatever the second
+  place-stays : turned k (answered 2 (compare j k axis) s) ≡ answered 2 (compare j k axis) s
+  unfolding turned turnedAway
+  place-stays = go (oneTo BOOKS k)
+    where
+      go : (i : Bool) → record { refused = cond i 2 2; suspect = nowhere; value = beside (compare j k axis) } ≡ answered 2 (compare j k axis) s
+      go true = refl
+      go false = refl
 
-  seen-at : (i : ℕ) (b : Book) → Found bs i b → (seen b ≡ some (meant b)) × (paper.sights (meantFrom BOOKS bs) i ≡ Option·map paper.sight (meant b))
-  unfolding paper.sights
-  seen-at i b f =
-      let h = among BOOKS i (f .among) in
-      let form : bookForm b ≡ true = rw (f .there) (form-at bs (i - 1) (f .formed) (omega (arith, h .0, h .1))) in
-      (seen-in b form, ap (Option·map paper.sight) (book-at bs i (h .0) (h .1) ∙ ap meant (sym (f .there))))
+  or-closed : (o : Option paper.Book) → isClosed (Option·map paper.sight o) || true ≡ true
+  or-closed none = refl
+  or-closed (some o) = refl
 
-  both-in : (s : ℕ → Option paper.Sight) → oneTo BOOKS j ≡ true → oneTo BOOKS k ≡ true → says (ask (compare j k axis)) s ≡ says (ask (compare 1 2 axis)) (λ i. cond (eqb i 1) (s j) (s k))
-  unfolding says lowest questioned given beside suspectIn
-  both-in s e f = rw (e, f)
+  pub compared : (a b : Book) → a ≡ foundOf bs j → b ≡ pickedOf bs k → turned k (turned j (comparedAlone axis (seen a) (seen b))) ≡ called (ask (compare j k axis)) bs .answer
+  unfolding called callOn shut comparedAlone paper.sights turned turnedAway beside suspectIn
+  compared a b ea eb = go (found-way bs j a ea)
+    where
+      go : Way bs j a → turned k (turned j (comparedAlone axis (seen a) (seen b))) ≡ called (ask (compare j k axis)) bs .answer
+      go (without u v) = rw (v, state-out bs u)
+      go (within u (elsewhere e w)) =
+          rw (w, closed-seen, within-seen bs k b (picked-way bs k b eb u), state-in bs u)
+          (ap (turned k) (one-closed j none (meant b) e refl) ∙ place-stays ∙ no-book (rw e))
+      go (within u (found f)) = beside-it (picked-way bs k b eb u)
+        where
+          beside-it : Within bs k b → turned k (turned j (comparedAlone axis (seen a) (seen b))) ≡ called (ask (compare j k axis)) bs .answer
+          beside-it (elsewhere e w) =
+              ap (turned k) (turned-among j (comparedAlone axis (seen a) (seen b)) (f .among))
+              ∙ rw (w, closed-seen, found-seen bs j a f, state-in bs u) (one-closed k (meant a) none e (or-closed (meant a)) ∙ no-book (rw (f .among, e)))
+          beside-it (found g) =
+              ap (turned k) (turned-among j (comparedAlone axis (seen a) (seen b)) (f .among))
+              ∙ turned-among k (comparedAlone axis (seen a) (seen b)) (g .among)
+              ∙ rw (found-seen bs j a f, found-seen bs k b g, state-in bs u) (both-in (meant a) (meant b) (found-meant bs j a f) (found-meant bs k b g) (f .among) (g .among))
 
-  pub both-found : (a b : Book) → Found bs j a → Found bs k b → comparedOf (comparedAlone axis (seen a) (seen b)) ≡ comparedOf (called (ask (compare j k axis)) bs .answer)
-  unfolding called callOn comparedAlone
-  both-found a b f g =
-      let u = seen-at j a f in
-      let v = seen-at k b g in
-      rw (u .0, v .0, state-in bs (f .formed), both-in (paper.sights (meantFrom BOOKS bs)) (f .among) (g .among), u .1, v .1)
+  pub comparison-asked : (a b : Book) → a ≡ foundOf bs j → b ≡ pickedOf bs k → (v : Compared) (r r′ : ℕ) → v ≡ comparedOf (comparedAlone axis (seen a) (seen b)) → r ≡ turnedAway j (v .refusal) → r′ ≡ turnedAway k r
+      → plainlyOf (record { refusal = r′; series = v .series; set = v .set; quantity = v .quantity; same = v .same }) ≡ comparisonOf (called (ask (compare j k axis)) bs .answer)
+  unfolding comparisonOf comparedOf turned
+  comparison-asked a b ea eb v r r′ e w w′ = rw (w′, w, e) (ap comparisonOf (compared a b ea eb))
 
 -- ---- the pass list
 
@@ -152,29 +160,6 @@ module _ (bs buffer : List ℕ) where
         (rw (state-in bs e, z) (ap (countBy 0) (sym count-is)), rw (state-in bs e, z, zero-add (length p)) (w ∙ ap (λ (q : List ℕ). q ++ drop (length q) buffer) l))
 
 -- ---- a fresh register
-
-zero-bytes : (n : ℕ) → bytesOf (replicate n 0) ≡ replicate (8 * n) 0
-unfolding bytesOf digits
-zero-bytes zero = refl
-zero-bytes (suc n) = let e : 8 * suc n ≡ suc (suc (suc (suc (suc (suc (suc (suc (8 * n)))))))) = omega arith in rw (e, zero-bytes n)
-
-closed-bytes : bookBytes none ≡ replicate BOOK 0
-unfolding bookOf wordsOf
-closed-bytes = zero-bytes 232
-
-zeros-add : (n m : ℕ) → _≡_ {A = List ℕ} (replicate n 0 ++ replicate m 0) (replicate (n + m) 0)
-zeros-add zero m = rw zero-add
-zeros-add (suc n) m = let e : suc n + m ≡ suc (n + m) = omega arith in rw e (ap (λ (l : List ℕ). 0 ∷ l) (zeros-add n m))
-
-closed-image : (n : ℕ) → image (replicate n none) ≡ replicate (BOOK * n) 0
-unfolding image
-closed-image zero = refl
-closed-image (suc n) = let e : BOOK * suc n ≡ BOOK + BOOK * n = omega arith in rw (closed-bytes, closed-image n, zeros-add BOOK (BOOK * n), e)
-
--- a fresh register's bytes: all zero
-pub fresh-image : image paper.closed ≡ replicate LENGTH 0
-unfolding paper.closed
-fresh-image = closed-image BOOKS
 
 pub fresh-refused : (bs : List ℕ) → (length bs ≡ LENGTH → ⊥) → Calls fresh bs 1 bs
 unfolding called callOn shut

@@ -6,8 +6,6 @@ ghost use Rattle.book.specs.Steps.{lengthsOf, countOf};
 ghost use Rattle.lent.specs.Image.{LENGTH};
 ghost use Rattle.lent.specs.Calls.{called, Calls};
 ghost use lib.ListN.{length};
-ghost use Rattle.evaluation.specs.Evaluating.{notJudged, doubled};
-ghost use Rattle.evaluation.specs.Comparing.{notCompared};
 ghost use Rattle.paper.specs.Alone.{evaluatedFile};
 ghost use Rattle.fieldfile.specs.Reader.{readOf};
 ghost use Rattle.register.specs.Answers.{checked, plainOf, evaluationOf, plainlyOf, comparisonOf, listAfter};
@@ -72,12 +70,7 @@ pub extern "C" fn rtk_open(
 ) -> u64
     ensures { λ r. ⌜ Calls (on book (begin (termsGiven d h sxy sh gxy gh x1 y1 h1 x2 y2 h2))) (now (register .entry)) r (now (register .exit)) ⌝ }
 {
-    let f = lent::found(register, book);
-    let refusal = f.refusal;
-    if refusal != 0 {
-        return refusal;
-    }
-    let b = f.book;
+    let b = lent::found(register, book);
     let opened = b.begin(d, h, sxy, sh, gxy, gh, x1, y1, h1, x2, y2, h2);
     lent::put_back(register, book, opened)
 }
@@ -87,12 +80,7 @@ pub extern "C" fn rtk_open(
 pub extern "C" fn rtk_strike(register: &mut [u8], book: u64) -> u64
     ensures { λ r. ⌜ Calls (on book strike) (now (register .entry)) r (now (register .exit)) ⌝ }
 {
-    let f = lent::found(register, book);
-    let refusal = f.refusal;
-    if refusal != 0 {
-        return refusal;
-    }
-    let b = f.book;
+    let b = lent::found(register, book);
     let struck = b.strike();
     lent::put_back(register, book, struck)
 }
@@ -111,12 +99,7 @@ pub extern "C" fn rtk_enter(
 ) -> u64
     ensures { λ r. ⌜ Calls (on book (enter (record { series = series; set = set; point = point }) (record { x = x; y = y; h = h }))) (now (register .entry)) r (now (register .exit)) ⌝ }
 {
-    let f = lent::found(register, book);
-    let refusal = f.refusal;
-    if refusal != 0 {
-        return refusal;
-    }
-    let b = f.book;
+    let b = lent::found(register, book);
     let entered = b.enter(series, set, point, x, y, h);
     lent::put_back(register, book, entered)
 }
@@ -135,12 +118,7 @@ pub extern "C" fn rtk_correct(
 ) -> u64
     ensures { λ r. ⌜ Calls (on book (correct (record { series = series; set = set; point = point }) (record { x = x; y = y; h = h }))) (now (register .entry)) r (now (register .exit)) ⌝ }
 {
-    let f = lent::found(register, book);
-    let refusal = f.refusal;
-    if refusal != 0 {
-        return refusal;
-    }
-    let b = f.book;
+    let b = lent::found(register, book);
     let corrected = b.correct(series, set, point, x, y, h);
     lent::put_back(register, book, corrected)
 }
@@ -156,12 +134,7 @@ pub extern "C" fn rtk_withdraw(
 ) -> u64
     ensures { λ r. ⌜ Calls (on book (withdraw (record { series = series; set = set; point = point }))) (now (register .entry)) r (now (register .exit)) ⌝ }
 {
-    let f = lent::found(register, book);
-    let refusal = f.refusal;
-    if refusal != 0 {
-        return refusal;
-    }
-    let b = f.book;
+    let b = lent::found(register, book);
     let withdrawn = b.withdraw(series, set, point);
     lent::put_back(register, book, withdrawn)
 }
@@ -171,30 +144,21 @@ pub extern "C" fn rtk_withdraw(
 pub extern "C" fn rtk_take_back(register: &mut [u8], book: u64) -> u64
     ensures { λ r. ⌜ Calls (on book takeBack) (now (register .entry)) r (now (register .exit)) ⌝ }
 {
-    let f = lent::found(register, book);
-    let refusal = f.refusal;
-    if refusal != 0 {
-        return refusal;
-    }
-    let b = f.book;
+    let b = lent::found(register, book);
     let undone = b.take_back();
     lent::put_back(register, book, undone)
 }
 
-// ---- questions
+// ---- questions. Of a number that is no book's a closed book is asked: beside any refusal the rest of an answer is the same
 
 // What stands at a place.
 #[no_mangle]
 pub extern "C" fn rtk_read(register: &[u8], book: u64, series: u64, set: u64, point: u64) -> Lengths
     ensures { λ r. ⌜ r ≡ lengthsOf (called (ask (read book (record { series = series; set = set; point = point }))) (now (register .entry)) .answer) ⌝ }
 {
-    let f = lent::found(register, book);
-    let refusal = f.refusal;
-    if refusal != 0 {
-        return book::no_lengths(refusal);
-    }
-    let b = f.book;
-    b.read(series, set, point)
+    let mut reading = lent::found(register, book).read(series, set, point);
+    reading.refusal = lent::turned_away(book, reading.refusal);
+    reading
 }
 
 // How many changes can be taken back.
@@ -202,13 +166,9 @@ pub extern "C" fn rtk_read(register: &[u8], book: u64, series: u64, set: u64, po
 pub extern "C" fn rtk_changes(register: &[u8], book: u64) -> Count
     ensures { λ r. ⌜ r ≡ countOf (called (ask (changes book)) (now (register .entry)) .answer) ⌝ }
 {
-    let f = lent::found(register, book);
-    let refusal = f.refusal;
-    if refusal != 0 {
-        return book::no_count(refusal);
-    }
-    let b = f.book;
-    b.count()
+    let mut changes = lent::found(register, book).count();
+    changes.refusal = lent::turned_away(book, changes.refusal);
+    changes
 }
 
 // The residual of the reading at a place: 15·r for x, y, h.
@@ -222,13 +182,10 @@ pub extern "C" fn rtk_residual(
 ) -> Lengths
     ensures { λ r. ⌜ r ≡ lengthsOf (called (ask (residual book (record { series = series; set = set; point = point }))) (now (register .entry)) .answer) ⌝ }
 {
-    let f = lent::found(register, book);
-    let refusal = f.refusal;
-    if refusal != 0 {
-        return book::no_lengths(refusal);
-    }
-    let b = f.book;
-    questions::residual(b, series, set, point)
+    let b = lent::found(register, book);
+    let mut residual = questions::residual(b, series, set, point);
+    residual.refusal = lent::turned_away(book, residual.refusal);
+    residual
 }
 
 // ---- evaluation
@@ -265,26 +222,14 @@ fn plain(e: Evaluated) -> Evaluation
     }
 }
 
-// Beside a refusal figures are 0 and verdicts beyond.
-fn no_evaluation(refusal: u64) -> Evaluation
-    ensures { λ r. ⌜ r ≡ plainOf (doubled (notJudged refusal 0 0 0)) ⌝ }
-{
-    let j = evaluation::not_judged(refusal, 0, 0, 0);
-    plain(evaluation::in_millimetres(j))
-}
-
 // Evaluate a book.
 #[no_mangle]
 pub extern "C" fn rtk_evaluate(register: &[u8], book: u64) -> Evaluation
     ensures { λ r. ⌜ r ≡ evaluationOf (called (ask (evaluate book)) (now (register .entry)) .answer) ⌝ }
 {
-    let f = lent::found(register, book);
-    let refusal = f.refusal;
-    if refusal != 0 {
-        return no_evaluation(refusal);
-    }
-    let b = f.book;
-    plain(questions::evaluate(b))
+    let mut e = questions::evaluate(lent::found(register, book));
+    e.refusal = lent::turned_away(book, e.refusal);
+    plain(e)
 }
 
 // Evaluate the book of a field file.
@@ -321,29 +266,17 @@ fn plainly(c: Compared) -> Comparison
     }
 }
 
-// Beside a refusal a comparison says not the same.
-fn no_comparison(refusal: u64) -> Comparison
-    ensures { λ r. ⌜ r ≡ plainlyOf (notCompared refusal 0 0 0) ⌝ }
-{
-    plainly(evaluation::not_compared(refusal, 0, 0, 0))
-}
-
 // Compare two books along an axis: 1 xy, 2 h. The first is named first.
 #[no_mangle]
 pub extern "C" fn rtk_compare(register: &[u8], first: u64, second: u64, axis: u64) -> Comparison
     ensures { λ r. ⌜ r ≡ comparisonOf (called (ask (compare first second axis)) (now (register .entry)) .answer) ⌝ }
 {
-    let f = lent::found(register, first);
-    let refusal = f.refusal;
-    if refusal != 0 {
-        return no_comparison(refusal);
-    }
-    if lent::is_book(second) {
-        let a = f.book;
-        let b = lent::picked(register, second);
-        return plainly(questions::compare(a, b, axis));
-    }
-    no_comparison(2)
+    let a = lent::found(register, first);
+    let b = lent::picked(register, second);
+    let mut c = questions::compare(a, b, axis);
+    c.refusal = lent::turned_away(first, c.refusal);
+    c.refusal = lent::turned_away(second, c.refusal);
+    plainly(c)
 }
 
 // ---- the pass list

@@ -1,31 +1,49 @@
-use mathlib.Core.Path.{refl, sym}
-use Rattle.lent.proofs.Calls.{kept-back, written}
+use native.Mathlib.Omega.{arith}
+use Rattle.lent.proofs.Calls.{away-not, kept-back, written}
 use borrow.Author.Needs.{needs}
 use Rattle.lent.proofs.put_back.Statement.{statement}
 use Rattle.lent.proofs.put_back.Tie as tie
 use Rattle.lent.proofs.put_back.Reads as reads
 use Rattle.lent.proofs.put_back.Lts as lts
 use Rattle.lent.proofs.store.Reads as store-reads
+use Rattle.lent.proofs.turned_away.Reads as turned-away-reads
+
+turned-away-requires : tie.Need-turned-away-requires
+turned-away-requires c κs = search needs
 
 returns : tie.Need-returns
 returns c =
-    (refl, kept-back _ _ _ (c .if1 .taken))
+    kept-back _ _ _ _ (c .before .turned-away .ensures) (c .if1 .taken)
 
-sub-a : tie.Need-sub-a
-sub-a c = search needs
+sub-store : tie.Need-sub-store
+sub-store c =
+    (away-not (c .before .before .before .before .args .book) (c .before .before .before .before .args .s .refusal) _ (c .before .before .turned-away .ensures) (c .before .if1 .left)) .0
 
-mul-a : tie.Need-mul-a
-mul-a c = search needs
+mul-store : tie.Need-mul-store
+mul-store c =
+    let w = away-not (c .before .before .before .before .args .book) (c .before .before .before .before .args .s .refusal) _ (c .before .before .turned-away .ensures) (c .before .if1 .left) in
+    search (needs, w)
 
 store-requires : tie.Need-store-requires
-store-requires c κs = search needs
+store-requires c κs =
+    let w = away-not (c .before .before .before .before .args .book) (c .before .before .before .before .args .s .refusal) _ (c .before .before .turned-away .ensures) (c .before .if1 .left) in
+    omega (arith, w .0, w .1, c .before .before .before .before .pre (w .2))
 
 same-length : tie.Need-same-length
 same-length c = search needs
 
 returns-2 : tie.Need-returns-2
 returns-2 c =
-    (sym (c .before .before .before .before .if1 .left), written _ _ _ _ (c .before .before .before .before .if1 .left) (c .before .before .store .ensures))
+    written _ _ _ _ _ (c .before .before .before .before .before .turned-away .ensures) (c .before .before .before .before .if1 .left) (c .before .before .store .ensures)
 
 pub put-back-spec : {M : Type 1} → statement M
-put-back-spec = tie.close (tie.spec returns sub-a mul-a store-requires same-length returns-2)
+put-back-spec =
+    tie.close
+    (tie.spec
+    turned-away-requires
+    returns
+    sub-store
+    mul-store
+    store-requires
+    same-length
+    returns-2)

@@ -1,37 +1,30 @@
-use mathlib.Core.Path.{_≡_, _∙_}
-use Rattle.lent.proofs.Calls.{found-is, ask-refused, ask-done}
-use Rattle.paper.specs.Units.{zeros}
+use Rattle.paper.specs.Units.{Place}
 use Rattle.paper.specs.Calls.{residual}
-use Rattle.book.specs.Steps.{lengthsBy, lengthsOf}
-use Rattle.register.proofs.Ways.{residual-alone, residual-outside, lengths-shut}
+use Rattle.register.proofs.Ways.{residues, lengths-asked}
 use borrow.Author.Needs.{needs}
 use Rattle.register.proofs.rtk_residual.Statement.{statement}
 use Rattle.register.proofs.rtk_residual.Tie as tie
 use Rattle.register.proofs.rtk_residual.Reads as reads
 use Rattle.register.proofs.rtk_residual.Lts as lts
-use Rattle.book.proofs.no_lengths.Reads as no-lengths-reads
 use Rattle.lent.proofs.found.Reads as found-reads
+use Rattle.lent.proofs.turned_away.Reads as turned-away-reads
 use Rattle.questions.proofs.residual.Reads as residual-reads
 
 found-requires : tie.Need-found-requires
 found-requires c κs = search needs
 
-no-lengths-requires : tie.Need-no-lengths-requires
-no-lengths-requires c κs = search needs
+residual-requires : tie.Need-residual-requires
+residual-requires c κs = search needs
+
+turned-away-requires : tie.Need-turned-away-requires
+turned-away-requires c κs = search needs
 
 returns : tie.Need-returns
 returns c =
     let s = c .before .before .before .before in
-    c .no-lengths .ensures ∙ ask-refused (s .args .register .now) (s .args .book) (λ k. residual k (record { series = s .args .series; set = s .args .set; point = s .args .point })) lengthsOf (λ n. lengthsBy n zeros) (λ t e. residual-outside (s .args .book) t e (record { series = s .args .series; set = s .args .set; point = s .args .point })) (lengths-shut (s .args .book) (record { series = s .args .series; set = s .args .set; point = s .args .point }) .1) _ (c .before .before .found .ensures) (c .before .if1 .taken)
-
-residual-requires : tie.Need-residual-requires
-residual-requires c κs = search needs
-
-returns-2 : tie.Need-returns-2
-returns-2 c =
-    let s = c .before .before .before .before .before in
-    c .residual .ensures ∙ ask-done (s .args .register .now) (s .args .book) (λ k. residual k (record { series = s .args .series; set = s .args .set; point = s .args .point })) lengthsOf (λ t e. residual-alone (s .args .book) t e (record { series = s .args .series; set = s .args .set; point = s .args .point })) _ (found-is (s .args .register .now) (s .args .book) _ (c .before .before .before .found .ensures) (c .before .before .if1 .left))
+    let p : Place = record { series = s .args .series; set = s .args .set; point = s .args .point } in
+    lengths-asked (s .args .register .now) (s .args .book) (λ k. residual k p) (residues p) _ (c .before .before .found .ensures) _ _ (c .before .residual .ensures) (c .turned-away .ensures)
 
 pub rtk-residual-spec : {M : Type 1} → statement M
 rtk-residual-spec =
-    tie.close (tie.spec found-requires no-lengths-requires returns residual-requires returns-2)
+    tie.close (tie.spec found-requires residual-requires turned-away-requires returns)

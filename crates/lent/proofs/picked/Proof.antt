@@ -1,0 +1,66 @@
+use native.Mathlib.Omega.{arith}
+use borrow.Author.Tests.{eq-eqb, ne-eqb}
+use Rattle.paper.specs.Procedure.{BOOKS}
+use Rattle.paper.proofs.Tests.{among}
+use Rattle.form.proofs.Laws.{known}
+use Rattle.lent.specs.Calls.{pickedOf}
+use borrow.Author.Needs.{needs}
+use Rattle.lent.proofs.picked.Statement.{statement}
+use Rattle.lent.proofs.picked.Tie as tie
+use Rattle.lent.proofs.picked.Reads as reads
+use Rattle.lent.proofs.picked.Lts as lts
+use Rattle.book.proofs.closed.Reads as closed-reads
+use Rattle.lent.proofs.is_book.Reads as is-book-reads
+use Rattle.lent.proofs.load.Reads as load-reads
+
+closed-requires : tie.Need-closed-requires
+closed-requires c κs = search needs
+
+returns : tie.Need-returns
+unfolding pickedOf
+returns c =
+    simp (ne-eqb _ _ (c .before .if1 .taken), c .closed .ensures)
+
+is-book-requires : tie.Need-is-book-requires
+is-book-requires c κs = search needs
+
+sub-load : tie.Need-sub-load
+sub-load c =
+    among BOOKS (c .before .before .before .before .args .book) (known (c .before .is-book .ensures) (c .if2 .taken)) .0
+
+mul-load : tie.Need-mul-load
+mul-load c =
+    let h = among BOOKS (c .before .before .before .before .args .book) (known (c .before .is-book .ensures) (c .if2 .taken)) in
+    search (needs, h)
+
+load-requires : tie.Need-load-requires
+load-requires c κs =
+    let h = among BOOKS (c .before .before .before .before .args .book) (known (c .before .is-book .ensures) (c .if2 .taken)) in
+    omega (arith, h .0, h .1, c .before .before .if1 .left)
+
+returns-2 : tie.Need-returns-2
+unfolding pickedOf
+returns-2 c =
+    simp (eq-eqb _ _ (c .before .before .before .if1 .left), known (c .before .before .is-book .ensures) (c .before .if2 .taken), c .load .ensures)
+
+closed-requires-2 : tie.Need-closed-requires-2
+closed-requires-2 c κs = search needs
+
+returns-3 : tie.Need-returns-3
+unfolding pickedOf
+returns-3 c =
+    simp (eq-eqb _ _ (c .before .before .before .if1 .left), known (c .before .before .is-book .ensures) (c .before .if2 .left), c .closed2 .ensures)
+
+pub picked-spec : {M : Type 1} → statement M
+picked-spec =
+    tie.close
+    (tie.spec
+    closed-requires
+    returns
+    is-book-requires
+    sub-load
+    mul-load
+    load-requires
+    returns-2
+    closed-requires-2
+    returns-3)
