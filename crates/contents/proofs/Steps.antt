@@ -8,6 +8,8 @@ use mathlib.Core.List.{List, [], _∷_, append-nil, map}
 use native.Mathlib.Omega.{arith}
 use lib.ListN.{length, drop, length-drop, length-map, drop-of-length-le, replicate}
 use lib.IntN.{ℤ}
+use lib.Dec.{eqb}
+use borrow.Author.Tests.{eqb-true, eqb-false}
 use Rattle.words.specs.Paste.{pasted}
 use Rattle.paper.specs.Units.{Terms, Places}
 use Rattle.image.specs.Lengths.{word, tripleWords, termWords}
@@ -61,7 +63,7 @@ module _ (s : List ℕ) {a b c i : ℕ} (e : table s ≡ got (a, b, c) (drop i s
   unfolding whole
   so-far = then-got _ e ∙ (then-got _ (g .reads) ∙ then-got _ (h .reads))
 
-  pub formed-more : (k ≡ length s → ⊥) → whole s ≡ bad
+  formed-more : (k ≡ length s → ⊥) → whole s ≡ bad
   unfolding ends
   formed-more f = so-far ∙ go (drop k s) (rw length-drop (omega (arith, h .to)))
     where
@@ -69,7 +71,7 @@ module _ (s : List ℕ) {a b c i : ℕ} (e : table s ≡ got (a, b, c) (drop i s
       go [] p = absurd (omega arith)
       go (b ∷ l) p = refl
 
-  pub formed-all : k ≡ length s → length ts₀ ≡ 12 → length cells₀ ≡ 90 → Formed true ts cells (whole s)
+  formed-all : k ≡ length s → length ts₀ ≡ 12 → length cells₀ ≡ 90 → Formed true ts cells (whole s)
   unfolding ends
   formed-all f p q =
       let m : length s ≤ k = omega arith in
@@ -81,6 +83,14 @@ module _ (s : List ℕ) {a b c i : ℕ} (e : table s ≡ got (a, b, c) (drop i s
       yes-formed (termsFrom (g .value)) (h .value) w
       (g .holds ∙ (pasted-all ts₀ (map word (g .value)) (length-map (g .value) word ∙ (n ∙ sym p)) ∙ l))
       (h .holds ∙ pasted-all cells₀ (cellsOf (h .value)) (omega (arith, length-cells (h .value), v .thirty)))
+
+  -- of the form exactly if nothing is left
+  pub formed-by : length ts₀ ≡ 12 → length cells₀ ≡ 90 → Formed (eqb k (length s)) ts cells (whole s)
+  formed-by p q = go (eqb k (length s)) refl
+    where
+      go : (r : Bool) → eqb k (length s) ≡ r → Formed r ts cells (whole s)
+      go true f = formed-all (eqb-true k (length s) f) p q
+      go false f = not-formed (formed-more (eqb-false k (length s) f))
 
 -- ---- what is given back
 

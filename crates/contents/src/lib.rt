@@ -30,7 +30,7 @@ fn formed(s: &[u8], terms: &mut [u64], cells: &mut [u64]) -> bool
     let Read::At(_, k) = bodies::bodies_at(s, j, a, b, c, cells) else {
         return false;
     };
-    if k == s.len() { true } else { false }
+    k == s.len()
 }
 
 // What a file holds, whatever its bytes.

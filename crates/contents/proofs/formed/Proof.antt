@@ -4,7 +4,7 @@ use borrow.Author.Needs.{needs}
 use mathlib.Core.Path.{_∙_}
 use Rattle.decimals.proofs.Steps.{then-got, then-bad}
 use Rattle.fieldfile.specs.Reader.{whole}
-use Rattle.contents.proofs.Steps.{not-formed, no-bodies, formed-more, formed-all}
+use Rattle.contents.proofs.Steps.{not-formed, no-bodies, formed-by}
 use Rattle.contents.proofs.formed.Statement.{statement}
 use Rattle.contents.proofs.formed.Tie as tie
 
@@ -71,25 +71,11 @@ same-length-5 c = search needs
 
 returns-4 : tie.Need-returns-4
 returns-4 c =
-    let a = c .before .before .before .before .before .before .before .before .before .before .before .before .before .before .before .before .before .before .before .before .before .before .args in
-    let e = c .before .before .before .before .before .before .before .before .before .before .before .before .before .before .before .before .before .before .table-at .ensures .good _ _ _ _ (c .before .before .before .before .before .before .before .before .before .before .before .before .before .before .before .before .a .given .1) in
-    let g = c .before .before .before .before .before .before .before .before .before .before .before .before .before .numbers-at .ensures .good _ _ (c .before .before .before .before .before .before .before .before .before .j .given .1) in
-    let h = c .before .before .before .before .before .before .bodies-at .ensures .good _ _ (c .before .before .k .given .1) in
-    formed-all (a .s .now) (e .0) (a .terms .now) _ (a .cells .now) _ g h (c .if1 .taken) (c .before .before .before .before .before .before .before .before .before .before .before .before .before .before .before .before .before .before .before .before .before .before .pre .0) (c .before .before .before .before .before .before .before .before .before .before .before .before .before .before .before .before .before .before .before .before .before .before .pre .1)
-
-same-length-6 : tie.Need-same-length-6
-same-length-6 c = search needs
-
-same-length-7 : tie.Need-same-length-7
-same-length-7 c = search needs
-
-returns-5 : tie.Need-returns-5
-returns-5 c =
-    let a = c .before .before .before .before .before .before .before .before .before .before .before .before .before .before .before .before .before .before .before .before .before .before .args in
-    let e = c .before .before .before .before .before .before .before .before .before .before .before .before .before .before .before .before .before .before .table-at .ensures .good _ _ _ _ (c .before .before .before .before .before .before .before .before .before .before .before .before .before .before .before .before .a .given .1) in
-    let g = c .before .before .before .before .before .before .before .before .before .before .before .before .before .numbers-at .ensures .good _ _ (c .before .before .before .before .before .before .before .before .before .j .given .1) in
-    let h = c .before .before .before .before .before .before .bodies-at .ensures .good _ _ (c .before .before .k .given .1) in
-    not-formed (formed-more (a .s .now) (e .0) (a .terms .now) _ (a .cells .now) _ g h (c .if1 .left))
+    let a = c .before .before .before .before .before .before .before .before .before .before .before .before .before .before .before .before .before .before .before .before .before .args in
+    let e = c .before .before .before .before .before .before .before .before .before .before .before .before .before .before .before .before .before .table-at .ensures .good _ _ _ _ (c .before .before .before .before .before .before .before .before .before .before .before .before .before .before .before .a .given .1) in
+    let g = c .before .before .before .before .before .before .before .before .before .before .before .before .numbers-at .ensures .good _ _ (c .before .before .before .before .before .before .before .before .j .given .1) in
+    let h = c .before .before .before .before .before .bodies-at .ensures .good _ _ (c .before .k .given .1) in
+    formed-by (a .s .now) (e .0) (a .terms .now) _ (a .cells .now) _ g h (c .before .before .before .before .before .before .before .before .before .before .before .before .before .before .before .before .before .before .before .before .before .pre .0) (c .before .before .before .before .before .before .before .before .before .before .before .before .before .before .before .before .before .before .before .before .before .pre .1)
 
 pub formed-spec : {M : Type 1} → statement M
 formed-spec =
@@ -112,7 +98,4 @@ formed-spec =
     returns-3
     same-length-4
     same-length-5
-    returns-4
-    same-length-6
-    same-length-7
-    returns-5)
+    returns-4)
