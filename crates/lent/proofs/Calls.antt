@@ -24,7 +24,8 @@ use Rattle.words.specs.Paste.{pasted}
 use Rattle.image.specs.Changes.{zeros}
 use Rattle.book.specs.declared.Book.{Book}
 use Rattle.book.specs.declared.Step.{Step}
-use Rattle.book.specs.Meaning.{bookOf, meant, blank, bookForm, seen}
+use Rattle.form.specs.Whole.{blank, wordsForm}
+use Rattle.book.specs.Meaning.{bookOf, meant, bookForm, seen}
 use Rattle.book.specs.Steps.{step, stepOf}
 use Rattle.book.proofs.Meaning.{seen-in}
 use Rattle.lent.specs.Image.{BOOK, LENGTH, bookBytes, image, bookAt, meantFrom, inForm, stateOf}
@@ -64,7 +65,7 @@ module _ (bs : List ℕ) (k : ℕ) where
       go false v w = elsewhere v w
 
   pub found-way : (b : Book) → b ≡ foundOf bs k → Way bs k b
-  unfolding foundOf seen bookForm
+  unfolding foundOf seen bookForm wordsForm
   found-way b e = go (inForm bs) refl e
     where
       go : (i : Bool) → inForm bs ≡ i → b ≡ cond i (pickedOf bs k) (unformed (pickedOf bs k)) → Way bs k b
@@ -84,7 +85,7 @@ module _ (bs : List ℕ) (k : ℕ) where
   found-meant b f = book-at bs k (range b f .0) (range b f .1) ∙ ap meant (sym (f .there))
 
 pub closed-seen : seen (bookOf none) ≡ some none
-unfolding seen bookForm blank meant bookOf zeros
+unfolding seen bookForm wordsForm blank meant bookOf zeros
 closed-seen = refl
 
 pub within-seen : (bs : List ℕ) (k : ℕ) (b : Book) → Within bs k b → seen b ≡ some (meant b)
