@@ -50,10 +50,7 @@ pub fn closed() -> Book
 pub fn in_form(b: Book) -> bool
     ensures { λ r. ⌜ r ≡ bookForm b ⌝ }
 {
-    let terms = b.terms;
-    let cells = b.cells;
-    let changes = b.changes;
-    form::in_form(b.opened, &terms, &cells, b.kept, &changes)
+    form::in_form(b.opened, &b.terms, &b.cells, b.kept, &b.changes)
 }
 
 // ---- one change

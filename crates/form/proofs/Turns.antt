@@ -3,21 +3,23 @@
 use Prim.Native.Nat.{ℕ, suc, _+_, _-_, _*_, _≤_, _<_}
 use native.Mathlib.Omega.{arith}
 use native.Mathlib.Numerals.{add-one}
-use mathlib.Core.Path.{_≡_}
-use mathlib.Core.Bool.{Bool, true, false, not, _&&_}
-use mathlib.Core.List.{List, [], _∷_}
-use lib.ListN.{length, getD, drop, drop-of-length-le}
+use mathlib.Core.Path.{_≡_, sym, _∙_}
+use mathlib.Core.Bool.{Bool, true, false}
+use mathlib.Core.List.{List, _∷_}
+use lib.ListN.{length, getD, set, drop, drop-of-length-le, length-set}
 use lib.Seq.{drop-cons, drop-drop, getD-drop}
-use borrow.Author.Tests.{lt-ltb, le-ltb, ne-eqb}
-use Rattle.words.specs.Paste.{pasted}
+use lib.Dec.{eqb}
+use borrow.Author.Tests.{ne-eqb}
 use Rattle.paper.specs.Procedure.{PLACES}
-use Rattle.paper.specs.Units.{Terms, Places, isEmpty, nearAt}
+use Rattle.paper.specs.Units.{Terms, Places}
 use Rattle.paper.specs.Books.{Change, make}
 use Rattle.paper.specs.Form.{fits, takeable}
 use Rattle.paper.proofs.Form.{fit-reaches}
-use Rattle.image.specs.Places.{allZero, spotOf, spotAt, placesOf}
+use Rattle.image.specs.Places.{allZero, spotOf, spots, placesOf}
 use Rattle.image.specs.Changes.{change, entries, zeros}
-use Rattle.image.proofs.Places.{place-at, spots-set, empty-spot}
+use Rattle.image.proofs.Places.{length-spots}
+use Rattle.form.specs.Marks.{Marks, fitsMarked}
+use Rattle.form.proofs.Marks.{fits-marked, marks-put}
 
 -- ---- words not used
 
@@ -33,31 +35,17 @@ pub zeros-end : (l : List ℕ) (i : ℕ) → length l ≤ i → zeros (drop i l)
 unfolding zeros
 zeros-end l i h = rw (drop-of-length-le l {i = i} h)
 
--- ---- a kept change
-
-module _ (t : Terms) (cells : List ℕ) (p x y h : ℕ) where
-  abbrev c : Change
-  c = change p (spotOf x y h)
-
-  pub change-outside : PLACES ≤ p → false ≡ fits t (placesOf cells) c
-  unfolding fits
-  change-outside k = rw (le-ltb p PLACES k)
-
-  pub change-within : {a b e : Bool} → p < PLACES → a ≡ nearAt t p (spotOf x y h) → b ≡ allZero x y h → e ≡ isEmpty (spotAt cells (p * 3)) → a && not (b && e) ≡ fits t (placesOf cells) c
-  unfolding fits
-  change-within k near none-put empty = rw (lt-ltb p PLACES k, empty-spot x y h, place-at cells p k, near, none-put, empty)
-
--- ---- the kept changes from j on, where `at` stands at the places then
+-- ---- the kept changes from j on, where l is what stands at the places then
 
 module _ (t : Terms) (ch : List ℕ) (n : ℕ) where
-  abbrev pub takeableFrom : List ℕ → ℕ → Bool
-  takeableFrom at j = takeable t (placesOf at) (entries (n - j) (drop (j * 4) ch))
+  abbrev pub takeableFrom : Places → ℕ → Bool
+  takeableFrom l j = takeable t l (entries (n - j) (drop (j * 4) ch))
 
   abbrev pub changeAt : ℕ → Change
   changeAt j = change (getD ch (j * 4) 0) (spotOf (getD ch (j * 4 + 1) 0) (getD ch (j * 4 + 2) 0) (getD ch (j * 4 + 3) 0))
 
-  pub takeable-start : (at : List ℕ) → takeable t (placesOf at) (entries n ch) ≡ takeableFrom at 0
-  takeable-start at = let e : n - 0 ≡ n = omega arith in rw e
+  pub takeable-start : (l : Places) → takeable t l (entries n ch) ≡ takeableFrom l 0
+  takeable-start l = let e : n - 0 ≡ n = omega arith in rw e
 
   entries-turn : (j : ℕ) → j < n → entries (n - j) (drop (j * 4) ch) ≡ changeAt j ∷ entries (n - (j + 1)) (drop ((j + 1) * 4) ch)
   unfolding entries
@@ -67,27 +55,49 @@ module _ (t : Terms) (ch : List ℕ) (n : ℕ) where
       let z : j * 4 + 0 ≡ j * 4 = omega arith in
       rw (e, getD-drop (j * 4) ch 0 0, getD-drop (j * 4) ch 1 0, getD-drop (j * 4) ch 2 0, getD-drop (j * 4) ch 3 0, drop-drop 4 (j * 4) ch, f, z)
 
-  pub takeable-on : (at at′ : List ℕ) (j : ℕ) → j < n → length at ≡ 90
-      → fits t (placesOf at) (changeAt j) ≡ true
-      → at′ ≡ pasted at (changeAt j .place * 3) (getD ch (j * 4 + 1) 0 ∷ getD ch (j * 4 + 2) 0 ∷ getD ch (j * 4 + 3) 0 ∷ [])
-      → takeableFrom at j ≡ takeableFrom at′ (j + 1)
-  unfolding takeable make placesOf
-  takeable-on at at′ j h l e o =
-      rw (
-        entries-turn j h,
-        e,
-        o,
-        spots-set PLACES at (changeAt j .place) (getD ch (j * 4 + 1) 0) (getD ch (j * 4 + 2) 0) (getD ch (j * 4 + 3) 0) l (fit-reaches t (placesOf at) (changeAt j) e),
-      )
-
-  pub takeable-stop : (at : List ℕ) (j : ℕ) → j < n → fits t (placesOf at) (changeAt j) ≡ false → takeableFrom at j ≡ false
+  pub takeable-on : (l : Places) (j : ℕ) → j < n → fits t l (changeAt j) ≡ true → takeableFrom l j ≡ takeableFrom (make (changeAt j) l) (j + 1)
   unfolding takeable
-  takeable-stop at j h e = rw (entries-turn j h, e)
+  takeable-on l j h e = rw (entries-turn j h, e)
 
-  pub takeable-end : (at : List ℕ) (j : ℕ) → n ≤ j → takeableFrom at j ≡ true
-  unfolding takeable entries
-  takeable-end at j h = let e : n - j ≡ 0 = omega arith in rw e
+  pub takeable-stop : (l : Places) (j : ℕ) → j < n → fits t l (changeAt j) ≡ false → takeableFrom l j ≡ false
+  unfolding takeable
+  takeable-stop l j h e = rw (entries-turn j h, e)
 
-  pub takeable-none : (l : Places) → n ≡ 0 → true ≡ takeable t l (entries n ch)
+  pub takeable-end : (l : Places) (j : ℕ) → n ≤ j → takeableFrom l j ≡ true
   unfolding takeable entries
-  takeable-none l e = rw e
+  takeable-end l j h = let e : n - j ≡ 0 = omega arith in rw e
+
+-- ---- the same, where no more is known of the places than their marks
+
+abbrev pub Stands : Terms → Places → List ℕ → ℕ → List ℕ → ℕ → Type 0
+Stands t before ch n m j = (l : Places) × (length l ≡ PLACES) × Marks m l × (takeable t before (entries n ch) ≡ takeableFrom t ch n l j)
+
+pub stands-start : (t : Terms) (cells ch : List ℕ) (n : ℕ) (m : List ℕ) → Marks m (placesOf cells) → Stands t (placesOf cells) ch n m 0
+unfolding placesOf
+stands-start t cells ch n m k = (placesOf cells, length-spots PLACES cells, k, takeable-start t ch n (placesOf cells))
+
+module _ (t : Terms) (before : Places) (ch : List ℕ) (n : ℕ) (m : List ℕ) (j : ℕ) (s : Stands t before ch n m j) where
+  abbrev taken : Bool
+  taken = fitsMarked t m (getD ch (j * 4) 0) (getD ch (j * 4 + 1) 0) (getD ch (j * 4 + 2) 0) (getD ch (j * 4 + 3) 0)
+
+  fits-is : taken ≡ fits t (s .0) (changeAt t ch n j)
+  fits-is = fits-marked t m (getD ch (j * 4) 0) (getD ch (j * 4 + 1) 0) (getD ch (j * 4 + 2) 0) (getD ch (j * 4 + 3) 0) (s .0) (s .2)
+
+  pub stands-reaches : taken ≡ true → getD ch (j * 4) 0 < PLACES
+  stands-reaches e = fit-reaches t (s .0) (changeAt t ch n j) (sym fits-is ∙ e)
+
+  pub stands-on : (v : ℕ) → j < n → taken ≡ true → eqb v 0 ≡ allZero (getD ch (j * 4 + 1) 0) (getD ch (j * 4 + 2) 0) (getD ch (j * 4 + 3) 0)
+      → Stands t before ch n (set m (getD ch (j * 4) 0) v) (j + 1)
+  unfolding make
+  stands-on v h e k = (
+    make (changeAt t ch n j) (s .0),
+    length-set (s .0) (getD ch (j * 4) 0) _ ∙ s .1,
+    marks-put t m (getD ch (j * 4) 0) (getD ch (j * 4 + 1) 0) (getD ch (j * 4 + 2) 0) (getD ch (j * 4 + 3) 0) (s .0) v (s .1) (stands-reaches e) k (s .2),
+    s .3 ∙ takeable-on t ch n (s .0) j h (sym fits-is ∙ e),
+  )
+
+  pub stands-stop : j < n → taken ≡ false → false ≡ takeable t before (entries n ch)
+  stands-stop h e = sym (s .3 ∙ takeable-stop t ch n (s .0) j h (sym fits-is ∙ e))
+
+  pub stands-end : n ≤ j → true ≡ takeable t before (entries n ch)
+  stands-end h = sym (s .3 ∙ takeable-end t ch n (s .0) j h)

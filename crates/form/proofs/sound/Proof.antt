@@ -4,7 +4,7 @@ use Rattle.form.proofs.sound.Statement.{statement}
 use Rattle.form.proofs.sound.Tie as tie
 use Rattle.form.proofs.sound.Reads as reads
 use Rattle.form.proofs.sound.Lts as lts
-use Rattle.form.proofs.changes_ok.Reads as changes-ok-reads
+use Rattle.form.proofs.takeable.Reads as takeable-reads
 use Rattle.form.proofs.zero_from.Reads as zero-from-reads
 use Rattle.places.proofs.all_near.Reads as all-near-reads
 use Rattle.ranges.proofs.in_range.Reads as in-range-reads
@@ -25,12 +25,12 @@ in-range-requires c κs = search needs
 all-near-requires : tie.Need-all-near-requires
 all-near-requires c κs = search needs
 
-changes-ok-requires : tie.Need-changes-ok-requires
-changes-ok-requires c κs = search needs
+takeable-requires : tie.Need-takeable-requires
+takeable-requires c κs = search needs
 
 returns-2 : tie.Need-returns-2
 returns-2 c =
-    sound-is _ _ _ _ (c .before .before .before .before .before .if1 .left) (c .before .before .before .zero-from .ensures) (c .before .before .in-range .ensures) (c .before .all-near .ensures) (c .changes-ok .ensures)
+    sound-is _ _ _ _ (c .before .before .before .before .before .if1 .left) (c .before .before .before .zero-from .ensures) (c .before .before .in-range .ensures) (c .before .all-near .ensures) (c .takeable .ensures)
 
 pub sound-spec : {M : Type 1} → statement M
 sound-spec =
@@ -41,5 +41,5 @@ sound-spec =
     zero-from-requires
     in-range-requires
     all-near-requires
-    changes-ok-requires
+    takeable-requires
     returns-2)
