@@ -89,11 +89,13 @@ pub fn is_book(book: u64) -> bool
 pub fn picked(register: &[u8], book: u64) -> Book
     ensures { λ r. ⌜ r ≡ pickedOf (now (register .entry)) book ⌝ }
 {
-    if register.len() != Layout::REGISTER {
+    let length = register.len();
+    if length != Layout::REGISTER {
         return book::closed();
     }
     if is_book(book) {
-        return load(register, ((book - 1) as usize) * Layout::BOOK);
+        let a = ((book - 1) as usize) * Layout::BOOK;
+        return load(register, a);
     }
     book::closed()
 }

@@ -24,12 +24,12 @@ returns c =
 is-book-requires : tie.Need-is-book-requires
 is-book-requires c κs = search needs
 
-sub-load : tie.Need-sub-load
-sub-load c =
+sub-a : tie.Need-sub-a
+sub-a c =
     among BOOKS (c .before .before .before .before .args .book) (known (c .before .is-book .ensures) (c .if2 .taken)) .0
 
-mul-load : tie.Need-mul-load
-mul-load c =
+mul-a : tie.Need-mul-a
+mul-a c =
     let h = among BOOKS (c .before .before .before .before .args .book) (known (c .before .is-book .ensures) (c .if2 .taken)) in
     search (needs, h)
 
@@ -58,8 +58,8 @@ picked-spec =
     closed-requires
     returns
     is-book-requires
-    sub-load
-    mul-load
+    sub-a
+    mul-a
     load-requires
     returns-2
     closed-requires-2
