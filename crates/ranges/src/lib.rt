@@ -6,10 +6,8 @@ ghost use Prim.Native.Nat.{_≤_};
 ghost use lib.IntN.{_-ℤ_};
 ghost use Rattle.paper.specs.Units.{from1To, upTo, onEarth, within, inRange, near, pointOf};
 ghost use Rattle.image.specs.Lengths.{len, triple, tripleAt, termsOf};
+use image::ZERO;
 use paper::Procedure;
-
-// The word of the length 0.
-const ZERO: u64 = 1000000000000;
 
 // A length from 1 to n.
 fn one_to(n: u64, w: u64) -> bool
