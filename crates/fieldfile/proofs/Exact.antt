@@ -141,31 +141,32 @@ count-only name l {n} {r} e =
 -- the table with its three counts, and what follows it
 abbrev headed : (a b c : ℕ) → List ℕ → List ℕ
 headed a b c r =
-    CONTENTS ++ TERMS ++ (SERIES1 ++ (line (pos a ∷ []) ++ (SERIES2 ++ (line (pos b ∷ []) ++ (SERIES3 ++ (line (pos c ∷ []) ++ r))))))
+    CONTENTS ++ (TERMS ++ (SERIES1 ++ (line (pos a ∷ []) ++ (SERIES2 ++ (line (pos b ∷ []) ++ (SERIES3 ++ (line (pos c ∷ []) ++ r)))))))
 
 table-back : (a b c : ℕ) (r : List ℕ) → a ≤ 10 → b ≤ 10 → c ≤ 10 → table (headed a b c r) ≡ got (a, b, c) r
 unfolding table
 table-back a b c r p q s =
-    then-got _ (fixed-back (CONTENTS ++ TERMS) _)
-    ∙ (then-got _ (count-back SERIES1 a _ p) ∙ (then-got _ (count-back SERIES2 b _ q) ∙ then-got _ (count-back SERIES3 c r s)))
+    then-got _ (fixed-back CONTENTS _) ∙ (then-got _ (fixed-back TERMS _)
+    ∙ (then-got _ (count-back SERIES1 a _ p) ∙ (then-got _ (count-back SERIES2 b _ q) ∙ then-got _ (count-back SERIES3 c r s))))
 
 table-only : (l : List ℕ) (n : ℕ × ℕ × ℕ) (r : List ℕ) → table l ≡ got n r → l ≡ headed (n .0) (n .1) (n .2) r
 unfolding table
 table-only l n r e =
-    let i = then-only (fixed (CONTENTS ++ TERMS) l) _ e in
-    let a = then-only (count SERIES1 (i .1)) _ (i .3) in
+    let i = then-only (fixed CONTENTS l) _ e in
+    let j = then-only (fixed TERMS (i .1)) _ (i .3) in
+    let a = then-only (count SERIES1 (j .1)) _ (j .3) in
     let b = then-only (count SERIES2 (a .1)) _ (a .3) in
     let c = then-only (count SERIES3 (b .1)) _ (b .3) in
-    join (a .0) (b .0) (c .0) (i .1) (a .1) (b .1) (c .1) (fixed-only (CONTENTS ++ TERMS) l (i .2))
-    (count-only SERIES1 (i .1) (a .2)) (count-only SERIES2 (a .1) (b .2)) (count-only SERIES3 (b .1) (c .2)) (c .3)
+    join (a .0) (b .0) (c .0) (i .1) (j .1) (a .1) (b .1) (c .1) (fixed-only CONTENTS l (i .2)) (fixed-only TERMS (i .1) (j .2))
+    (count-only SERIES1 (j .1) (a .2)) (count-only SERIES2 (a .1) (b .2)) (count-only SERIES3 (b .1) (c .2)) (c .3)
   where
-    join : (a b c : ℕ) (u v w x : List ℕ) → l ≡ CONTENTS ++ TERMS ++ u → u ≡ SERIES1 ++ (line (pos a ∷ []) ++ v)
+    join : (a b c : ℕ) (t u v w x : List ℕ) → l ≡ CONTENTS ++ t → t ≡ TERMS ++ u → u ≡ SERIES1 ++ (line (pos a ∷ []) ++ v)
         → v ≡ SERIES2 ++ (line (pos b ∷ []) ++ w) → w ≡ SERIES3 ++ (line (pos c ∷ []) ++ x) → _≡_ {A = Parsed (ℕ × ℕ × ℕ)} (got (a, b, c) x) (got n r)
         → l ≡ headed (n .0) (n .1) (n .2) r
-    join a b c u v w x el eu ev ew e =
+    join a b c t u v w x el et eu ev ew e =
         let f : _≡_ {A = ℕ × ℕ × ℕ} (a, b, c) n = cc in
         let g : x ≡ r = cc in
-        rw (← f, ← g, el, eu, ev, ew)
+        rw (← f, ← g, el, et, eu, ev, ew)
 
 -- ---- the bodies
 

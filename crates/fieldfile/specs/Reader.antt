@@ -54,8 +54,8 @@ count name l = then (fixed name l) (λ u r. then (field 10 r) upTo10)
 
 unfoldable pub table : List ℕ → Parsed (ℕ × ℕ × ℕ)
 table l =
-    then (fixed (CONTENTS ++ TERMS) l) (λ u t.
-    then (count SERIES1 t) (λ a v. then (count SERIES2 v) (λ b w. then (count SERIES3 w) (λ c m. got (a, b, c) m))))
+    then (fixed CONTENTS l) (λ u r. then (fixed TERMS r) (λ u t.
+    then (count SERIES1 t) (λ a v. then (count SERIES2 v) (λ b w. then (count SERIES3 w) (λ c m. got (a, b, c) m)))))
 
 -- ---- the file
 

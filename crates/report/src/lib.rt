@@ -6,6 +6,7 @@ ghost use Rattle.printing.specs.Given.{Put};
 ghost use Rattle.verdicts.specs.Given.{judged, Fits, FitsAxis};
 ghost use Rattle.report.specs.Text.{refusalText, reportText};
 ghost use Rattle.report.specs.Given.{suspect, held};
+use image::ZERO;
 use verdicts::Axis;
 
 // The first `len` bytes are the text.
@@ -22,14 +23,14 @@ fn put_refusal(out: &mut [u8], refusal: u64, series: u64, set: u64, quantity: u6
     let i = printing::put_fixed(out, 0, b"REFUSED ");
     if refusal == 11 {
         let t = [
-            refusal + 1000000000000,
-            series + 1000000000000,
-            set + 1000000000000,
-            quantity + 1000000000000,
+            refusal + ZERO,
+            series + ZERO,
+            set + ZERO,
+            quantity + ZERO,
         ];
         return printing::put_numbers(out, i, &t);
     }
-    let t = [refusal + 1000000000000];
+    let t = [refusal + ZERO];
     printing::put_numbers(out, i, &t)
 }
 

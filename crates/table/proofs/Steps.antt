@@ -2,7 +2,7 @@
 -- Assumes nothing.
 use Prim.Native.Nat.{ℕ, _-_, _<_, _≤_}
 use mathlib.Core.Path.{_≡_, refl, sym, _∙_}
-use mathlib.Core.List.{List, _++_}
+use mathlib.Core.List.{List}
 use native.Mathlib.Omega.{arith}
 use borrow.Author.Tests.{le-leb, lt-leb}
 use lib.ListN.{length, drop}
@@ -65,29 +65,34 @@ not-table {s} {p} e = record { good = never; fail = λ f. e }
     never : (a b c n : ℕ) → Bad ≡ Of a b c n → (p ≡ got (a, b, c) (drop n s)) × (n ≤ length s)
     never a b c n f = let z : _≡_ {A = ℕ} 0 1 = cc in absurd (omega arith)
 
--- the fixed string, then each count: where it stops, and where all are there
+-- the fixed strings, then each count: where it stops, and where all are there
 module _ (s : List ℕ) where
-  pub no-head : fixed (CONTENTS ++ TERMS) s ≡ bad → Tabled s Bad (table s)
+  pub no-contents : fixed CONTENTS s ≡ bad → Tabled s Bad (table s)
   unfolding table
-  no-head e = not-table (then-bad _ e)
+  no-contents e = not-table (then-bad _ e)
 
-  module _ {w i : ℕ} (f : Got Nothing s 0 w i (fixed (CONTENTS ++ TERMS) s)) where
-    pub no-first : count SERIES1 (drop i s) ≡ bad → Tabled s Bad (table s)
+  module _ {o q : ℕ} (d : Got Nothing s 0 o q (fixed CONTENTS s)) where
+    pub no-terms : fixed TERMS (drop q s) ≡ bad → Tabled s Bad (table s)
     unfolding table
-    no-first e = not-table (then-got _ (f .reads) ∙ then-bad _ e)
+    no-terms e = not-table (then-got _ (d .reads) ∙ then-bad _ e)
 
-    module _ {x j : ℕ} (g : Got Count s i x j (count SERIES1 (drop i s))) where
-      pub no-second : count SERIES2 (drop j s) ≡ bad → Tabled s Bad (table s)
+    module _ {w i : ℕ} (f : Got Nothing s q w i (fixed TERMS (drop q s))) where
+      pub no-first : count SERIES1 (drop i s) ≡ bad → Tabled s Bad (table s)
       unfolding table
-      no-second e = not-table (then-got _ (f .reads) ∙ (then-got _ (g .reads) ∙ then-bad _ e))
+      no-first e = not-table (then-got _ (d .reads) ∙ (then-got _ (f .reads) ∙ then-bad _ e))
 
-      module _ {y k : ℕ} (h : Got Count s j y k (count SERIES2 (drop j s))) where
-        pub no-third : count SERIES3 (drop k s) ≡ bad → Tabled s Bad (table s)
+      module _ {x j : ℕ} (g : Got Count s i x j (count SERIES1 (drop i s))) where
+        pub no-second : count SERIES2 (drop j s) ≡ bad → Tabled s Bad (table s)
         unfolding table
-        no-third e = not-table (then-got _ (f .reads) ∙ (then-got _ (g .reads) ∙ (then-got _ (h .reads) ∙ then-bad _ e)))
+        no-second e = not-table (then-got _ (d .reads) ∙ (then-got _ (f .reads) ∙ (then-got _ (g .reads) ∙ then-bad _ e)))
 
-        pub all-counts : {z n : ℕ} → Got Count s k z n (count SERIES3 (drop k s)) → Tabled s (Of x y z n) (table s)
-        unfolding table
-        all-counts e =
-            yes-table (g .value) (h .value) (e .value) (then-got _ (f .reads) ∙ (then-got _ (g .reads) ∙ (then-got _ (h .reads) ∙ then-got _ (e .reads))))
-            (g .holds) (h .holds) (e .holds) (e .to)
+        module _ {y k : ℕ} (h : Got Count s j y k (count SERIES2 (drop j s))) where
+          pub no-third : count SERIES3 (drop k s) ≡ bad → Tabled s Bad (table s)
+          unfolding table
+          no-third e = not-table (then-got _ (d .reads) ∙ (then-got _ (f .reads) ∙ (then-got _ (g .reads) ∙ (then-got _ (h .reads) ∙ then-bad _ e))))
+
+          pub all-counts : {z n : ℕ} → Got Count s k z n (count SERIES3 (drop k s)) → Tabled s (Of x y z n) (table s)
+          unfolding table
+          all-counts e =
+              yes-table (g .value) (h .value) (e .value) (then-got _ (d .reads) ∙ (then-got _ (f .reads) ∙ (then-got _ (g .reads) ∙ (then-got _ (h .reads) ∙ then-got _ (e .reads)))))
+              (g .holds) (h .holds) (e .holds) (e .to)

@@ -5,14 +5,18 @@ ghost use Rattle.decimals.specs.Given.{Gives};
 ghost use Rattle.fieldfile.specs.Reader.{count, table};
 ghost use Rattle.table.specs.Given.{Count, Tabled};
 use decimals::Read;
+use image::ZERO;
 
-const HEAD: [u8; 19] = *b"CONTENTS 4\nTERMS 1\n";
+// The fixed strings of a file, for whoever reads or writes one.
+pub const CONTENTS: [u8; 11] = *b"CONTENTS 4\n";
 
-const SERIES1: [u8; 8] = *b"SERIES1 ";
+pub const TERMS: [u8; 8] = *b"TERMS 1\n";
 
-const SERIES2: [u8; 8] = *b"SERIES2 ";
+pub const SERIES1: [u8; 8] = *b"SERIES1 ";
 
-const SERIES3: [u8; 8] = *b"SERIES3 ";
+pub const SERIES2: [u8; 8] = *b"SERIES2 ";
+
+pub const SERIES3: [u8; 8] = *b"SERIES3 ";
 
 // The three counts of the table of contents, and the place after it.
 pub enum Counts {
@@ -31,20 +35,23 @@ fn count_at(s: &[u8], at: usize, name: &[u8]) -> Read
     let Read::At(z, next) = lines::field_at(s, n, 10) else {
         return Read::Bad;
     };
-    if z < 1000000000000 {
+    if z < ZERO {
         return Read::Bad;
     }
-    if 1000000000010 < z {
+    if ZERO + 10 < z {
         return Read::Bad;
     }
-    Read::At(z - 1000000000000, next)
+    Read::At(z - ZERO, next)
 }
 
 // The table of contents.
 pub fn table_at(s: &[u8]) -> Counts
     ensures { λ r. ⌜ Tabled (now (s .entry)) r (table (now (s .entry))) ⌝ }
 {
-    let Read::At(_, j) = lines::fixed_at(s, 0, &HEAD) else {
+    let Read::At(_, i) = lines::fixed_at(s, 0, &CONTENTS) else {
+        return Counts::Bad;
+    };
+    let Read::At(_, j) = lines::fixed_at(s, i, &TERMS) else {
         return Counts::Bad;
     };
     let Read::At(a, k) = count_at(s, j, &SERIES1) else {
