@@ -7,6 +7,9 @@ ghost use Rattle.table.specs.Given.{Count, Tabled};
 use decimals::Read;
 use image::ZERO;
 
+// The word of 10, the most lines of a body.
+const TEN: u64 = ZERO + 10;
+
 // The fixed strings of a file, for whoever reads or writes one.
 pub const CONTENTS: [u8; 11] = *b"CONTENTS 4\n";
 
@@ -38,7 +41,7 @@ fn count_at(s: &[u8], at: usize, name: &[u8]) -> Read
     if z < ZERO {
         return Read::Bad;
     }
-    if ZERO + 10 < z {
+    if TEN < z {
         return Read::Bad;
     }
     Read::At(z - ZERO, next)
