@@ -34,8 +34,8 @@ pub marks-on : (m cells : List ℕ) (p v : ℕ) → p < length m
 marks-on m cells p v i e f k h =
     ⊎-elim
     (λ (o : p ≤ k).
-        let z : k ≡ p = omega arith in
-        rw (z, getD-set-same m p v 0 i) (e ∙ sym (empty-spot _ _ _)))
+    let z : k ≡ p = omega arith in
+    rw (z, getD-set-same m p v 0 i) (e ∙ sym (empty-spot _ _ _)))
     (λ (o : k < p). getD-set-other-is m p k v o ∙ f k o)
     (≤-or-< k p)
   where

@@ -22,12 +22,7 @@ fn put_refusal(out: &mut [u8], refusal: u64, series: u64, set: u64, quantity: u6
 {
     let i = printing::put_fixed(out, 0, b"REFUSED ");
     if refusal == 11 {
-        let t = [
-            refusal + ZERO,
-            series + ZERO,
-            set + ZERO,
-            quantity + ZERO,
-        ];
+        let t = [refusal + ZERO, series + ZERO, set + ZERO, quantity + ZERO];
         return printing::put_numbers(out, i, &t);
     }
     let t = [refusal + ZERO];
