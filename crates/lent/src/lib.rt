@@ -66,7 +66,9 @@ pub fn formed(register: &[u8]) -> bool
     }
     let mut k: usize = 0;
     while k < Procedure::BOOKS {
-        if book::in_form(load(register, k * Layout::BOOK)) {
+        // its words as they stand: `book::in_form` would have them copied
+        let b = load(register, k * Layout::BOOK);
+        if form::in_form(b.opened, &b.terms, &b.cells, b.kept, &b.changes) {
             k += 1;
         } else {
             return false;
