@@ -55,7 +55,7 @@ fn fill(buffer: &mut [u8]) -> Got
 
 // Writes the report of a file; a failure to write is told on standard error.
 fn print(file: &[u8]) {
-    let p = fieldbook::report_file(file);
+    let p = filequestions::report_file(file);
     let n = p.len;
     let text = p.bytes;
     if io::write_all(STDOUT_FILENO, &text[..n]) {

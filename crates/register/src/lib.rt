@@ -237,7 +237,7 @@ pub extern "C" fn rtk_evaluate(register: &[u8], book: u64) -> Evaluation
 pub extern "C" fn rtk_evaluate_file(file: &[u8]) -> Evaluation
     ensures { λ r. ⌜ r ≡ evaluationOf (evaluatedFile (readOf (now (file .entry)))) ⌝ }
 {
-    plain(fieldbook::evaluate_file(file))
+    plain(filequestions::evaluate_file(file))
 }
 
 // ---- comparison

@@ -6,7 +6,7 @@ use Rattle.evaluate.proofs.print.Statement.{statement}
 use Rattle.evaluate.proofs.print.Tie as tie
 use Rattle.evaluate.proofs.print.Reads as reads
 use Rattle.evaluate.proofs.print.Lts as lts
-use Rattle.fieldbook.proofs.report_file.Reads as report-file-reads
+use Rattle.filequestions.proofs.report_file.Reads as report-file-reads
 use Rattle.io.proofs.write_all.Reads as write-all-reads
 use Rattle.os.proofs.fail.Reads as fail-reads
 

@@ -5,7 +5,7 @@ use Rattle.register.proofs.rtk_evaluate_file.Statement.{statement}
 use Rattle.register.proofs.rtk_evaluate_file.Tie as tie
 use Rattle.register.proofs.rtk_evaluate_file.Reads as reads
 use Rattle.register.proofs.rtk_evaluate_file.Lts as lts
-use Rattle.fieldbook.proofs.evaluate_file.Reads as evaluate-file-reads
+use Rattle.filequestions.proofs.evaluate_file.Reads as evaluate-file-reads
 use Rattle.register.proofs.plain.Reads as plain-reads
 
 evaluate-file-requires : tie.Need-evaluate-file-requires

@@ -1,12 +1,12 @@
 use mathlib.Core.Path.{ap, _∙_}
 use Rattle.evaluation.specs.Evaluating.{doubled}
 use borrow.Author.Needs.{needs}
-use Rattle.fieldbook.proofs.evaluate_file.Statement.{statement}
-use Rattle.fieldbook.proofs.evaluate_file.Tie as tie
-use Rattle.fieldbook.proofs.evaluate_file.Reads as reads
-use Rattle.fieldbook.proofs.evaluate_file.Lts as lts
+use Rattle.filequestions.proofs.evaluate_file.Statement.{statement}
+use Rattle.filequestions.proofs.evaluate_file.Tie as tie
+use Rattle.filequestions.proofs.evaluate_file.Reads as reads
+use Rattle.filequestions.proofs.evaluate_file.Lts as lts
 use Rattle.evaluation.proofs.in_millimetres.Reads as in-millimetres-reads
-use Rattle.fieldbook.proofs.judge_file.Reads as judge-file-reads
+use Rattle.filequestions.proofs.judge_file.Reads as judge-file-reads
 
 judge-file-requires : tie.Need-judge-file-requires
 judge-file-requires c κs = search needs

@@ -1,12 +1,12 @@
 use mathlib.Core.Path.{ap, _∙_}
 use Rattle.report.specs.Given.{held}
-use Rattle.fieldbook.proofs.Numbers.{file-prints, printed-is, printed-fits}
+use Rattle.filequestions.proofs.Numbers.{file-prints, printed-is, printed-fits}
 use borrow.Author.Needs.{needs}
-use Rattle.fieldbook.proofs.report_file.Statement.{statement}
-use Rattle.fieldbook.proofs.report_file.Tie as tie
-use Rattle.fieldbook.proofs.report_file.Reads as reads
-use Rattle.fieldbook.proofs.report_file.Lts as lts
-use Rattle.fieldbook.proofs.judge_file.Reads as judge-file-reads
+use Rattle.filequestions.proofs.report_file.Statement.{statement}
+use Rattle.filequestions.proofs.report_file.Tie as tie
+use Rattle.filequestions.proofs.report_file.Reads as reads
+use Rattle.filequestions.proofs.report_file.Lts as lts
+use Rattle.filequestions.proofs.judge_file.Reads as judge-file-reads
 use Rattle.report.proofs.report.Reads as report-reads
 
 judge-file-requires : tie.Need-judge-file-requires
