@@ -25,9 +25,9 @@ rust:
 examples:
 	@.ci/examples
 
-# The static library for the Rust crate `meliphrast`.
+# target/library/libmeliphrast.a, for the Rust crate `meliphrast` or a C program to link.
 library:
-	@rt staticlib register
+	@.ci/library
 
 # Ten million calls beside the second implementation; and the two side by side on the clock.
 long:
