@@ -1,0 +1,21 @@
+use Rattle.asks.specs.Answers.{plainOf}
+use borrow.Author.Needs.{needs}
+use Rattle.asks.proofs.plain.Statement.{statement}
+use Rattle.asks.proofs.plain.Tie as tie
+use Rattle.asks.proofs.plain.Reads as reads
+use Rattle.asks.proofs.plain.Lts as lts
+use Rattle.paper.proofs.mark_of.Reads as mark-of-reads
+
+mark-of-requires : tie.Need-mark-of-requires
+mark-of-requires c κs = search needs
+
+mark-of-requires-2 : tie.Need-mark-of-requires-2
+mark-of-requires-2 c κs = search needs
+
+returns : tie.Need-returns
+unfolding plainOf
+returns c =
+    simp (c .before .mark-of .ensures, c .mark-of2 .ensures)
+
+pub plain-spec : {M : Type 1} → statement M
+plain-spec = tie.close (tie.spec mark-of-requires mark-of-requires-2 returns)

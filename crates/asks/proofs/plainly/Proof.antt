@@ -1,0 +1,18 @@
+use Rattle.asks.specs.Answers.{plainlyOf}
+use Rattle.asks.proofs.plainly.Statement.{statement}
+use Rattle.asks.proofs.plainly.Tie as tie
+use Rattle.asks.proofs.plainly.Reads as reads
+use Rattle.asks.proofs.plainly.Lts as lts
+
+returns : tie.Need-returns
+unfolding plainlyOf
+returns c =
+    simp (c .if1 .taken)
+
+returns-2 : tie.Need-returns-2
+unfolding plainlyOf
+returns-2 c =
+    simp (c .if1 .left)
+
+pub plainly-spec : {M : Type 1} → statement M
+plainly-spec = tie.close (tie.spec returns returns-2)

@@ -1,0 +1,27 @@
+use Rattle.paper.specs.Calls.{changes}
+use Rattle.asks.proofs.Asked.{counts, count-asked}
+use borrow.Author.Needs.{needs}
+use Rattle.asks.proofs.rtk_changes.Statement.{statement}
+use Rattle.asks.proofs.rtk_changes.Tie as tie
+use Rattle.asks.proofs.rtk_changes.Reads as reads
+use Rattle.asks.proofs.rtk_changes.Lts as lts
+use Rattle.book.proofs.Book.count.Reads as count-reads
+use Rattle.lent.proofs.found.Reads as found-reads
+use Rattle.lent.proofs.turned_away.Reads as turned-away-reads
+
+found-requires : tie.Need-found-requires
+found-requires c κs = search needs
+
+count-requires : tie.Need-count-requires
+count-requires c κs = search needs
+
+turned-away-requires : tie.Need-turned-away-requires
+turned-away-requires c κs = search needs
+
+returns : tie.Need-returns
+returns c =
+    let s = c .before .before .before .before in
+    count-asked (s .args .register .now) (s .args .book) changes counts _ (c .before .before .found .ensures) _ _ (c .before .count .ensures) (c .turned-away .ensures)
+
+pub rtk-changes-spec : {M : Type 1} → statement M
+rtk-changes-spec = tie.close (tie.spec found-requires count-requires turned-away-requires returns)

@@ -1,0 +1,47 @@
+use mathlib.Core.Path.{_∙_}
+use Rattle.asks.proofs.Compared.{comparison-asked}
+use borrow.Author.Needs.{needs}
+use Rattle.asks.proofs.rtk_compare.Statement.{statement}
+use Rattle.asks.proofs.rtk_compare.Tie as tie
+use Rattle.asks.proofs.rtk_compare.Reads as reads
+use Rattle.asks.proofs.rtk_compare.Lts as lts
+use Rattle.lent.proofs.found.Reads as found-reads
+use Rattle.lent.proofs.picked.Reads as picked-reads
+use Rattle.lent.proofs.turned_away.Reads as turned-away-reads
+use Rattle.questions.proofs.compare.Reads as compare-reads
+use Rattle.asks.proofs.plainly.Reads as plainly-reads
+
+found-requires : tie.Need-found-requires
+found-requires c κs = search needs
+
+picked-requires : tie.Need-picked-requires
+picked-requires c κs = search needs
+
+compare-requires : tie.Need-compare-requires
+compare-requires c κs = search needs
+
+turned-away-requires : tie.Need-turned-away-requires
+turned-away-requires c κs = search needs
+
+turned-away-requires-2 : tie.Need-turned-away-requires-2
+turned-away-requires-2 c κs = search needs
+
+plainly-requires : tie.Need-plainly-requires
+plainly-requires c κs = search needs
+
+returns : tie.Need-returns
+returns c =
+    let s = c .before .before .before .before .before .before .before in
+    c .plainly .ensures ∙ comparison-asked (s .args .register .now) (s .args .first) (s .args .second) (s .args .axis) _ _ (c .before .before .before .before .before .found .ensures) (c .before .before .before .before .picked .ensures) _ _ _ (c .before .before .before .compare .ensures) (c .before .before .turned-away .ensures) (c .before .turned-away2 .ensures)
+
+pub rtk-compare-spec : {M : Type 1} → statement M
+rtk-compare-spec =
+    tie.close
+    (tie.spec
+    found-requires
+    picked-requires
+    compare-requires
+    turned-away-requires
+    turned-away-requires-2
+    plainly-requires
+    returns)

@@ -1,0 +1,34 @@
+use mathlib.Core.Path.{_∙_}
+use Rattle.paper.specs.Calls.{evaluate}
+use Rattle.asks.proofs.Asked.{evaluates, evaluation-asked}
+use borrow.Author.Needs.{needs}
+use Rattle.asks.proofs.rtk_evaluate.Statement.{statement}
+use Rattle.asks.proofs.rtk_evaluate.Tie as tie
+use Rattle.asks.proofs.rtk_evaluate.Reads as reads
+use Rattle.asks.proofs.rtk_evaluate.Lts as lts
+use Rattle.lent.proofs.found.Reads as found-reads
+use Rattle.lent.proofs.turned_away.Reads as turned-away-reads
+use Rattle.questions.proofs.evaluate.Reads as evaluate-reads
+use Rattle.asks.proofs.plain.Reads as plain-reads
+
+found-requires : tie.Need-found-requires
+found-requires c κs = search needs
+
+evaluate-requires : tie.Need-evaluate-requires
+evaluate-requires c κs = search needs
+
+turned-away-requires : tie.Need-turned-away-requires
+turned-away-requires c κs = search needs
+
+plain-requires : tie.Need-plain-requires
+plain-requires c κs = search needs
+
+returns : tie.Need-returns
+returns c =
+    let s = c .before .before .before .before .before in
+    c .plain .ensures ∙ evaluation-asked (s .args .register .now) (s .args .book) evaluate evaluates _ (c .before .before .before .found .ensures) _ _ (c .before .before .evaluate .ensures) (c .before .turned-away .ensures)
+
+pub rtk-evaluate-spec : {M : Type 1} → statement M
+rtk-evaluate-spec =
+    tie.close
+    (tie.spec found-requires evaluate-requires turned-away-requires plain-requires returns)

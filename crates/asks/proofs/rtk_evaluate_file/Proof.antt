@@ -1,0 +1,23 @@
+use mathlib.Core.Path.{ap, _∙_}
+use Rattle.asks.specs.Answers.{plainOf, evaluationOf}
+use borrow.Author.Needs.{needs}
+use Rattle.asks.proofs.rtk_evaluate_file.Statement.{statement}
+use Rattle.asks.proofs.rtk_evaluate_file.Tie as tie
+use Rattle.asks.proofs.rtk_evaluate_file.Reads as reads
+use Rattle.asks.proofs.rtk_evaluate_file.Lts as lts
+use Rattle.filequestions.proofs.evaluate_file.Reads as evaluate-file-reads
+use Rattle.asks.proofs.plain.Reads as plain-reads
+
+evaluate-file-requires : tie.Need-evaluate-file-requires
+evaluate-file-requires c κs = search needs
+
+plain-requires : tie.Need-plain-requires
+plain-requires c κs = search needs
+
+returns : tie.Need-returns
+unfolding evaluationOf
+returns c =
+    c .plain .ensures ∙ ap plainOf (c .before .evaluate-file .ensures)
+
+pub rtk-evaluate-file-spec : {M : Type 1} → statement M
+rtk-evaluate-file-spec = tie.close (tie.spec evaluate-file-requires plain-requires returns)

@@ -1,0 +1,29 @@
+use Rattle.paper.specs.Units.{Place}
+use Rattle.paper.specs.Calls.{read}
+use Rattle.asks.proofs.Asked.{reads, lengths-asked}
+use borrow.Author.Needs.{needs}
+use Rattle.asks.proofs.rtk_read.Statement.{statement}
+use Rattle.asks.proofs.rtk_read.Tie as tie
+use Rattle.asks.proofs.rtk_read.Reads as reads
+use Rattle.asks.proofs.rtk_read.Lts as lts
+use Rattle.book.proofs.Book.read.Reads as read-reads
+use Rattle.lent.proofs.found.Reads as found-reads
+use Rattle.lent.proofs.turned_away.Reads as turned-away-reads
+
+found-requires : tie.Need-found-requires
+found-requires c κs = search needs
+
+read-requires : tie.Need-read-requires
+read-requires c κs = search needs
+
+turned-away-requires : tie.Need-turned-away-requires
+turned-away-requires c κs = search needs
+
+returns : tie.Need-returns
+returns c =
+    let s = c .before .before .before .before in
+    let p : Place = record { series = s .args .series; set = s .args .set; point = s .args .point } in
+    lengths-asked (s .args .register .now) (s .args .book) (λ k. read k p) (reads p) _ (c .before .before .found .ensures) _ _ (c .before .read .ensures) (c .turned-away .ensures)
+
+pub rtk-read-spec : {M : Type 1} → statement M
+rtk-read-spec = tie.close (tie.spec found-requires read-requires turned-away-requires returns)

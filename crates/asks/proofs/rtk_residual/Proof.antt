@@ -1,0 +1,30 @@
+use Rattle.paper.specs.Units.{Place}
+use Rattle.paper.specs.Calls.{residual}
+use Rattle.asks.proofs.Asked.{residues, lengths-asked}
+use borrow.Author.Needs.{needs}
+use Rattle.asks.proofs.rtk_residual.Statement.{statement}
+use Rattle.asks.proofs.rtk_residual.Tie as tie
+use Rattle.asks.proofs.rtk_residual.Reads as reads
+use Rattle.asks.proofs.rtk_residual.Lts as lts
+use Rattle.lent.proofs.found.Reads as found-reads
+use Rattle.lent.proofs.turned_away.Reads as turned-away-reads
+use Rattle.questions.proofs.residual.Reads as residual-reads
+
+found-requires : tie.Need-found-requires
+found-requires c κs = search needs
+
+residual-requires : tie.Need-residual-requires
+residual-requires c κs = search needs
+
+turned-away-requires : tie.Need-turned-away-requires
+turned-away-requires c κs = search needs
+
+returns : tie.Need-returns
+returns c =
+    let s = c .before .before .before .before in
+    let p : Place = record { series = s .args .series; set = s .args .set; point = s .args .point } in
+    lengths-asked (s .args .register .now) (s .args .book) (λ k. residual k p) (residues p) _ (c .before .before .found .ensures) _ _ (c .before .residual .ensures) (c .turned-away .ensures)
+
+pub rtk-residual-spec : {M : Type 1} → statement M
+rtk-residual-spec =
+    tie.close (tie.spec found-requires residual-requires turned-away-requires returns)
