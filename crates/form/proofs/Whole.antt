@@ -29,14 +29,14 @@ module _ (t l : List ℕ) (k : ℕ) (ch : List ℕ) where
   abbrev Taken : Bool
   Taken = takeable (termsOf t) (placesOf l) (entries k ch)
 
-  formed-is : k ≤ KEPT → inRange (termsOf t) && Near && Taken ≡ formed b
+  formed-is : k ≤ KEPT → inRange (termsOf t) && (Near && Taken) ≡ formed b
   unfolding formed placesOf
   formed-is h =
       let n : leb (length (entries k ch)) KEPT ≡ true = rw (length-entries k ch) (le-leb k KEPT h) in
       rw (eq-eqb (length (spots PLACES l)) PLACES (length-spots PLACES l), n)
       (go (inRange (termsOf t)) Near)
     where
-      go : (r n : Bool) → r && n && Taken ≡ r && true && n && true && Taken
+      go : (r n : Bool) → r && (n && Taken) ≡ r && true && n && true && Taken
       go true true = refl
       go true false = refl
       go false n = refl
@@ -45,9 +45,9 @@ module _ (t l : List ℕ) (k : ℕ) (ch : List ℕ) where
   unfolding sound
   sound-many h = rw (lt-leb k KEPT h)
 
-  pub sound-is : {u r n c : Bool} → k ≤ KEPT → u ≡ zeros (drop (k * 4) ch) → r ≡ inRange (termsOf t) → n ≡ Near → c ≡ Taken → u && (r && n && c) ≡ sound t l k ch
+  pub sound-is : {u r s : Bool} → k ≤ KEPT → u ≡ zeros (drop (k * 4) ch) → r ≡ inRange (termsOf t) → s ≡ Near && Taken → u && (r && s) ≡ sound t l k ch
   unfolding sound
-  sound-is h unused range near back = rw (le-leb k KEPT h) (both unused (both (both range near) back ∙ formed-is h))
+  sound-is h unused range stand = rw (le-leb k KEPT h) (both unused (both range stand ∙ formed-is h))
 
   module _ (o : ℕ) where
     pub form-closed : {r : Bool} → o ≡ 0 → r ≡ blank t l k ch → r ≡ wordsForm o t l k ch

@@ -2,15 +2,20 @@
 -- Assumes nothing.
 use Prim.Native.Nat.{ℕ, suc, _+_, _-_, _*_, _<_}
 use native.Mathlib.Omega.{arith}
-use mathlib.Core.Path.{_≡_, refl, ap}
-use mathlib.Core.Bool.{Bool, true, false}
+use mathlib.Core.Path.{_≡_, refl, sym, ap, _∙_}
+use mathlib.Core.Bool.{Bool, true, false, _&&_, and-true}
 use mathlib.Core.List.{List, [], _∷_}
 use lib.ListN.{drop}
 use lib.Seq.{drop-drop, getD-drop}
-use Rattle.paper.specs.Procedure.{PLACES}
+use Rattle.paper.specs.Procedure.{ROUNDS, PLACES}
 use Rattle.paper.specs.Units.{Terms, Places, isEmpty, nearAt, allNear}
 use Rattle.paper.specs.TurnedAway.{some?}
 use Rattle.image.specs.Places.{spotAt, spots, placesOf}
+
+three-first : (n a b c : Bool) → (n && a && b) && c ≡ n && (a && (b && c))
+three-first true true b c = refl
+three-first true false b c = refl
+three-first false a b c = refl
 
 -- the places from p on
 
@@ -41,17 +46,24 @@ module _ (cells : List ℕ) where
     pub near-start : allNear t 0 (placesOf cells) ≡ nearFrom t 0
     near-start = ap (allNear t 0) start
 
-    pub near-on : (p : ℕ) → p < PLACES → nearAt t p (spotAt cells (p * 3)) ≡ true → nearFrom t p ≡ nearFrom t (p + 1)
-    unfolding allNear
-    near-on p h e = let f : suc p ≡ p + 1 = omega arith in rw (turn p h, e, f)
+    abbrev near : ℕ → Bool
+    near p = nearAt t p (spotAt cells (p * 3))
 
-    pub near-stop : (p : ℕ) → p < PLACES → nearAt t p (spotAt cells (p * 3)) ≡ false → nearFrom t p ≡ false
+    near-turn : (p : ℕ) → p < PLACES → nearFrom t p ≡ near p && nearFrom t (p + 1)
     unfolding allNear
-    near-stop p h e = rw (turn p h, e)
+    near-turn p h = let f : suc p ≡ p + 1 = omega arith in rw (turn p h, f)
 
-    pub near-end : (p : ℕ) → p ≡ PLACES → nearFrom t p ≡ true
+    -- a turn takes both points of a set
+    pub near-set : (n : Bool) {a b : Bool} (set : ℕ) → set < ROUNDS → a ≡ near (set * 2) → b ≡ near (set * 2 + 1)
+        → (n && a && b) && nearFrom t ((set + 1) * 2) ≡ n && nearFrom t (set * 2)
+    near-set n {a = a} {b = b} set h first second =
+        let f : set * 2 + 1 + 1 ≡ (set + 1) * 2 = omega arith in
+        rw (near-turn (set * 2) (omega arith), near-turn (set * 2 + 1) (omega arith), f, sym first, sym second)
+        (three-first n a b (nearFrom t ((set + 1) * 2)))
+
+    pub near-end : (n : Bool) {v : Bool} (set : ℕ) → set ≡ ROUNDS → n && nearFrom t (set * 2) ≡ v → n ≡ v
     unfolding allNear
-    near-end p e = rw (over p e)
+    near-end n set e f = let g : set * 2 ≡ PLACES = omega arith in sym (and-true n) ∙ rw (over (set * 2) g) at f
 
   abbrev pub emptyFrom : ℕ → Bool
   emptyFrom p = some? isEmpty (from p)

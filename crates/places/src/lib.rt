@@ -2,10 +2,13 @@
 // the words mean.
 ghost use mathlib.Core.Path.{_≡_};
 ghost use Prim.Native.Nat.{_*_, _<_};
+ghost use lib.ListN.{length};
+ghost use lib.Dec.{eqb};
 ghost use Rattle.paper.specs.Units.{nearAt, allNear, isEmpty};
 ghost use Rattle.paper.specs.TurnedAway.{some?};
 ghost use Rattle.image.specs.Lengths.{termsOf};
-ghost use Rattle.image.specs.Places.{allZero, spotOf, spotAt, placesOf};
+ghost use Rattle.image.specs.Places.{allZero, spotAt, placesOf};
+ghost use Rattle.places.specs.Marks.{Marks};
 use paper::Procedure;
 
 // Three words that hold no reading.
@@ -15,30 +18,14 @@ pub fn all_zero(x: u64, y: u64, h: u64) -> bool
     (x == 0) & ((y == 0) & (h == 0))
 }
 
-// Nothing, or a reading near its point.
-pub fn spot_near(t: &[u64; 12], place: usize, x: u64, y: u64, h: u64) -> bool
-    ensures { λ r. ⌜ r ≡ nearAt (termsOf (now (t .entry))) place (spotOf x y h) ⌝ }
+// 0 for three words that hold no reading, 1 for others.
+pub fn mark(x: u64, y: u64, h: u64) -> u64
+    ensures { λ r. ⌜ eqb r 0 ≡ allZero x y h ⌝ }
 {
     if all_zero(x, y, h) {
-        return true;
+        return 0;
     }
-    ranges::near(t, place, x, y, h)
-}
-
-// Every reading near its point.
-pub fn all_near(t: &[u64; 12], cells: &[u64; 90]) -> bool
-    ensures { λ r. ⌜ r ≡ allNear (termsOf (now (t .entry))) 0 (placesOf (now (cells .entry))) ⌝ }
-{
-    let mut p: usize = 0;
-    while p < Procedure::PLACES {
-        let m = p * 3;
-        if spot_near(t, p, cells[m], cells[m + 1], cells[m + 2]) {
-            p += 1;
-        } else {
-            return false;
-        }
-    }
-    true
+    1
 }
 
 // The place is empty.
@@ -48,6 +35,50 @@ pub fn empty_at(cells: &[u64; 90], place: usize) -> bool
 {
     let m = place * 3;
     all_zero(cells[m], cells[m + 1], cells[m + 2])
+}
+
+// The mark of what stands at a place.
+fn mark_at(cells: &[u64; 90], place: usize) -> u64
+    requires { ⌜ place < 30 ⌝ }
+    ensures { λ r. ⌜ eqb r 0 ≡ isEmpty (spotAt (now (cells .entry)) (place * 3)) ⌝ }
+{
+    let m = place * 3;
+    mark(cells[m], cells[m + 1], cells[m + 2])
+}
+
+// Nothing at the place, or a reading near its point.
+fn near_at(t: &[u64; 12], cells: &[u64; 90], place: usize) -> bool
+    requires { ⌜ place < 30 ⌝ }
+    ensures { λ r. ⌜ r ≡ nearAt (termsOf (now (t .entry))) place (spotAt (now (cells .entry)) (place * 3)) ⌝ }
+{
+    let m = place * 3;
+    empty_at(cells, place) | ranges::near(t, place, cells[m], cells[m + 1], cells[m + 2])
+}
+
+// Every reading near its point, and of each place its mark. A turn takes both points of a set, so that the compiler knows which of them it
+// has at hand.
+pub fn survey(t: &[u64; 12], cells: &[u64; 90], marks: &mut [u64]) -> bool
+    requires { ⌜ length (now marks) ≡ 30 ⌝ }
+    ensures { λ r. ⌜ (r ≡ allNear (termsOf (now (t .entry))) 0 (placesOf (now (cells .entry)))) × Marks (now (marks .exit)) (placesOf (now (cells .entry))) ⌝ }
+{
+    let mut near = true;
+    let mut set: usize = 0;
+    while set < Procedure::ROUNDS {
+        let p = set * Procedure::POINTS;
+        marks[p] = mark_at(cells, p);
+        marks[p + 1] = mark_at(cells, p + 1);
+        near = near & near_at(t, cells, p) & near_at(t, cells, p + 1);
+        set += 1;
+    }
+    near
+}
+
+// Every reading near its point.
+pub fn all_near(t: &[u64; 12], cells: &[u64; 90]) -> bool
+    ensures { λ r. ⌜ r ≡ allNear (termsOf (now (t .entry))) 0 (placesOf (now (cells .entry))) ⌝ }
+{
+    let mut marks = [0u64; 30];
+    survey(t, cells, &mut marks)
 }
 
 // A place is empty.

@@ -4,9 +4,8 @@ use Rattle.form.proofs.sound.Statement.{statement}
 use Rattle.form.proofs.sound.Tie as tie
 use Rattle.form.proofs.sound.Reads as reads
 use Rattle.form.proofs.sound.Lts as lts
-use Rattle.form.proofs.takeable.Reads as takeable-reads
 use Rattle.form.proofs.zero_from.Reads as zero-from-reads
-use Rattle.places.proofs.all_near.Reads as all-near-reads
+use Rattle.standing.proofs.all_stand.Reads as all-stand-reads
 use Rattle.ranges.proofs.in_range.Reads as in-range-reads
 
 returns : tie.Need-returns
@@ -22,15 +21,12 @@ zero-from-requires c κs = search needs
 in-range-requires : tie.Need-in-range-requires
 in-range-requires c κs = search needs
 
-all-near-requires : tie.Need-all-near-requires
-all-near-requires c κs = search needs
-
-takeable-requires : tie.Need-takeable-requires
-takeable-requires c κs = search needs
+all-stand-requires : tie.Need-all-stand-requires
+all-stand-requires c κs = search needs
 
 returns-2 : tie.Need-returns-2
 returns-2 c =
-    sound-is _ _ _ _ (c .before .before .before .before .before .if1 .left) (c .before .before .before .zero-from .ensures) (c .before .before .in-range .ensures) (c .before .all-near .ensures) (c .takeable .ensures)
+    sound-is _ _ _ _ (c .before .before .before .before .if1 .left) (c .before .before .zero-from .ensures) (c .before .in-range .ensures) (c .all-stand .ensures)
 
 pub sound-spec : {M : Type 1} → statement M
 sound-spec =
@@ -40,6 +36,5 @@ sound-spec =
     mul-zero-from
     zero-from-requires
     in-range-requires
-    all-near-requires
-    takeable-requires
+    all-stand-requires
     returns-2)

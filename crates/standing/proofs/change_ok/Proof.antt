@@ -1,0 +1,45 @@
+use mathlib.Core.Path.{_∙_}
+use Rattle.standing.proofs.Marked.{marked-outside, marked-empty, marked-filled}
+use borrow.Author.Needs.{needs}
+use Rattle.standing.proofs.change_ok.Statement.{statement}
+use Rattle.standing.proofs.change_ok.Tie as tie
+use Rattle.standing.proofs.change_ok.Reads as reads
+use Rattle.standing.proofs.change_ok.Lts as lts
+use Rattle.places.proofs.all_zero.Reads as all-zero-reads
+use Rattle.ranges.proofs.near.Reads as near-reads
+
+returns : tie.Need-returns
+returns c =
+    marked-outside _ _ _ _ _ _ (c .if1 .taken)
+
+all-zero-requires : tie.Need-all-zero-requires
+all-zero-requires c κs = search needs
+
+mul-result : tie.Need-mul-result
+mul-result c = search needs
+
+element-copy-out-result : tie.Need-element-copy-out-result
+element-copy-out-result c = search needs
+
+returns-2 : tie.Need-returns-2
+returns-2 c =
+    marked-empty _ _ _ _ _ _ (c .before .before .before .if1 .left) (c .before .before .all-zero .ensures) (c .before .if2 .taken)
+
+near-requires : tie.Need-near-requires
+near-requires c κs = search needs
+
+returns-3 : tie.Need-returns-3
+returns-3 c =
+    c .near .ensures ∙ marked-filled _ _ _ _ _ _ (c .before .before .before .if1 .left) (c .before .before .all-zero .ensures) (c .before .if2 .left)
+
+pub change-ok-spec : {M : Type 1} → statement M
+change-ok-spec =
+    tie.close
+    (tie.spec
+    returns
+    all-zero-requires
+    mul-result
+    element-copy-out-result
+    returns-2
+    near-requires
+    returns-3)
