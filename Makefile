@@ -20,7 +20,7 @@ proofs:
 	@rt ci
 
 rust:
-	@.ci/cargo test -q --offline --release
+	@.ci/rust
 
 examples:
 	@.ci/examples
