@@ -17,8 +17,9 @@ use Rattle.book.specs.Meaning.{seen}
 use Rattle.book.specs.Steps.{lengthsOf, countOf}
 use Rattle.book.specs.declared.Lengths.{Lengths}
 use Rattle.book.specs.declared.Count.{Count}
-use Rattle.evaluation.specs.declared.Evaluated.{Evaluated}
-use Rattle.evaluation.specs.Evaluating.{judgementOf, doubled}
+use Rattle.doubles.specs.declared.Evaluated.{Evaluated}
+use Rattle.evaluation.specs.Evaluating.{judgementOf}
+use Rattle.doubles.specs.Doubles.{doubled}
 use Rattle.lent.specs.Image.{meantFrom}
 use Rattle.lent.specs.Calls.{shut, callOn, called, foundOf, turnedAway}
 use Rattle.lent.proofs.Image.{state-in, state-out}

@@ -14,8 +14,8 @@ use Rattle.paper.specs.Answers.{answered, says, given, beside, suspectIn, nowhe
 use Rattle.paper.specs.Alone.{comparedAlone}
 use Rattle.book.specs.declared.Book.{Book}
 use Rattle.book.specs.Meaning.{meant, seen}
-use Rattle.evaluation.specs.declared.Compared.{Compared}
-use Rattle.evaluation.specs.Comparing.{comparedOf}
+use Rattle.comparison.specs.declared.Compared.{Compared}
+use Rattle.comparison.specs.Comparing.{comparedOf}
 use Rattle.lent.specs.Image.{meantFrom}
 use Rattle.lent.specs.Calls.{shut, callOn, called, pickedOf, foundOf, turnedAway}
 use Rattle.lent.proofs.Image.{state-in, state-out}

@@ -3,10 +3,11 @@ use Prim.Native.Nat.{ℕ}
 use mathlib.Core.Bool.{Bool, true, false}
 use Rattle.paper.specs.Verdicts.{markOf}
 use Rattle.paper.specs.Answers.{Answer}
-use Rattle.evaluation.specs.declared.Evaluated.{Evaluated}
-use Rattle.evaluation.specs.declared.Compared.{Compared}
-use Rattle.evaluation.specs.Evaluating.{judgementOf, doubled}
-use Rattle.evaluation.specs.Comparing.{comparedOf}
+use Rattle.doubles.specs.declared.Evaluated.{Evaluated}
+use Rattle.comparison.specs.declared.Compared.{Compared}
+use Rattle.evaluation.specs.Evaluating.{judgementOf}
+use Rattle.doubles.specs.Doubles.{doubled}
+use Rattle.comparison.specs.Comparing.{comparedOf}
 use Rattle.asks.specs.declared.Evaluation.{Evaluation}
 use Rattle.asks.specs.declared.Comparison.{Comparison}
 

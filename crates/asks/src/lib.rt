@@ -9,8 +9,8 @@ ghost use Rattle.lent.specs.Calls.{called};
 ghost use Rattle.asks.specs.Answers.{plainOf, evaluationOf, plainlyOf, comparisonOf};
 use book::Count;
 use book::Lengths;
-use evaluation::Compared;
-use evaluation::Evaluated;
+use comparison::Compared;
+use doubles::Evaluated;
 use paper::Mark;
 use paper::Sheet;
 
@@ -74,8 +74,8 @@ fn plain(e: Evaluated) -> Evaluation
     let sheet = e.sheet;
     let position = e.xy;
     let height = e.h;
-    let xy = paper::mark_of(position);
-    let h = paper::mark_of(height);
+    let xy = doubles::mark_of(position);
+    let h = doubles::mark_of(height);
     Evaluation {
         refusal: e.refusal,
         series: e.series,
@@ -138,7 +138,7 @@ pub extern "C" fn rtk_compare(register: &[u8], first: u64, second: u64, axis: u6
 {
     let a = lent::found(register, first);
     let b = lent::picked(register, second);
-    let mut c = questions::compare(a, b, axis);
+    let mut c = pairs::compare(a, b, axis);
     c.refusal = lent::turned_away(first, c.refusal);
     c.refusal = lent::turned_away(second, c.refusal);
     plainly(c)

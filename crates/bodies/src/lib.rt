@@ -6,7 +6,7 @@ ghost use Rattle.image.specs.Places.{cellsOf};
 ghost use Rattle.decimals.specs.Given.{Gives, Laid};
 ghost use Rattle.fieldfile.specs.Reader.{series, bodies};
 use decimals::Read;
-use paper::Procedure;
+use procedure::Procedure;
 
 // The places of a series.
 const IN_SERIES: usize = Procedure::SETS * Procedure::POINTS;

@@ -10,7 +10,7 @@ ghost use Rattle.paper.specs.Alone.{askedAlone};
 ghost use Rattle.image.specs.Lengths.{termsOf, termsGiven};
 ghost use Rattle.book.specs.Meaning.{bookOf, bookForm, seen};
 ghost use Rattle.book.specs.Steps.{stepOf, aimOf, changedOf, undoneOf, placedOf, begunOf, lengthsBy, lengthsOf, countBy, countOf};
-use paper::Procedure;
+use procedure::Procedure;
 
 // Words: a length is length + 10^12, three words 0 are an empty place; the changes kept for taking back, latest first, are four words
 // each, the place and what stood there.
@@ -65,7 +65,7 @@ impl Book {
         let old = self.cells;
         let was = self.changes;
         let changes = changes::keep(was, &old, place);
-        let cells = changes::put(old, place, x, y, h);
+        let cells = placing::put(old, place, x, y, h);
         Book {
             opened: self.opened,
             terms,
@@ -83,7 +83,7 @@ impl Book {
         let terms = self.terms;
         let old = self.cells;
         let was = self.changes;
-        let cells = changes::take_back(old, &was);
+        let cells = placing::take_back(old, &was);
         let changes = changes::pop(was);
         Book {
             opened: self.opened,

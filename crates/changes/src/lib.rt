@@ -1,11 +1,9 @@
-// One change in a book's words: a place put, and the kept changes with one more or one less.
+// The kept changes in a book's words, with one more or one less.
 ghost use mathlib.Core.Path.{_≡_};
-ghost use mathlib.Core.List.{[], _∷_};
 ghost use Prim.Native.Nat.{_+_, _*_, _<_};
 ghost use lib.ListN.{length, getD};
-ghost use Rattle.words.specs.Paste.{pasted};
 ghost use Rattle.changes.specs.Kept.{pushed, popped, more};
-use paper::Procedure;
+use procedure::Procedure;
 
 // The words of from, in order.
 fn copy(from: &[u64], out: &mut [u64])
@@ -59,31 +57,4 @@ pub fn one_more(n: u64) -> u64
     } else {
         Procedure::KEPT as u64
     }
-}
-
-// The places with three words at one of them.
-pub fn put(old: [u64; 90], place: usize, x: u64, y: u64, h: u64) -> [u64; 90]
-    requires { ⌜ place < 30 ⌝ }
-    ensures { λ r. ⌜ r ≡ pasted old (place * 3) (x ∷ y ∷ h ∷ []) ⌝ }
-{
-    let mut out = old;
-    let m = place * 3;
-    out[m] = x;
-    out[m + 1] = y;
-    out[m + 2] = h;
-    out
-}
-
-// The places with the latest kept change taken back.
-pub fn take_back(cells: [u64; 90], changes: &[u64; 128]) -> [u64; 90]
-    requires { ⌜ getD (now changes) 0 0 < 30 ⌝ }
-    ensures { λ r. ⌜ r ≡ pasted cells (getD (now (changes .entry)) 0 0 * 3) (getD (now (changes .entry)) 1 0 ∷ getD (now (changes .entry)) 2 0 ∷ getD (now (changes .entry)) 3 0 ∷ []) ⌝ }
-{
-    put(
-        cells,
-        changes[0] as usize,
-        changes[1],
-        changes[2],
-        changes[3],
-    )
 }

@@ -7,22 +7,19 @@ use mathlib.Core.Option.{Option, none, some}
 use mathlib.Core.List.{List}
 use Rattle.paper.specs.Units.{Terms, Places, isEmpty}
 use Rattle.paper.specs.Screening.{Suspect, firstSuspect}
-use Rattle.paper.specs.Figures.{doubles}
-use Rattle.paper.specs.Verdicts.{evaluation, bothWithin, verdict}
+use Rattle.paper.specs.Verdicts.{evaluation, bothWithin}
 use Rattle.paper.specs.TurnedAway.{some?, short, suspectOf, lowest, evaluating, questioned, evaluated, onList}
 use Rattle.paper.specs.Answers.{suspectIn, given, beside, says}
-use Rattle.paper.specs.declared.Sheet.{Sheet}
-use Rattle.paper.specs.declared.Verdict.{Verdict}
 use Rattle.image.specs.Lengths.{termsOf}
 use Rattle.image.specs.Places.{placesOf}
-use Rattle.figures.specs.Judging.{evaluationIn, shownFrom, judgedFrom}
+use Rattle.image.specs.Sights.{sightOf}
+use Rattle.figures.specs.Judging.{evaluationIn}
 use Rattle.figures.specs.declared.Evaluation.{Evaluation}
 use Rattle.screen.specs.Named.{foundOf}
 use Rattle.screen.specs.declared.Found.the-variants.{Nowhere, At}
+use Rattle.screen.proofs.Suspects.{none-is, some-is}
 use Rattle.evaluation.specs.declared.Judgement.{Judgement}
-use Rattle.evaluation.specs.declared.Evaluated.{Evaluated}
-use Rattle.evaluation.specs.Evaluating.{sightOf, answerTo, judgementOf, doubled, notJudged, afterScreen, screenedOf}
-use Rattle.evaluation.proofs.Suspects.{none-is, some-is}
+use Rattle.evaluation.specs.Evaluating.{answerTo, judgementOf, notJudged, afterScreen, screenedOf}
 
 -- ---- a full book
 
@@ -50,13 +47,6 @@ module _ (t l : List ℕ) where
 
   pub full-is : some? isEmpty (placesOf l) ≡ false → screenedOf (sightOf t l) ≡ judgementOf (answerTo (sightOf t l))
   full-is e = by-suspect e (firstSuspect (termsOf t) (placesOf l)) refl
-
--- ---- with doubles
-
-pub doubled-is : (j : Judgement) (f : Sheet) (x h : Verdict) → f ≡ doubles (shownFrom (j .evaluation .sheet)) → x ≡ verdict (judgedFrom (j .evaluation .xy)) → h ≡ verdict (judgedFrom (j .evaluation .h))
-    → _≡_ {A = Evaluated} (record { refusal = j .refusal; series = j .series; set = j .set; quantity = j .quantity; sheet = f; xy = x; h = h }) (doubled j)
-unfolding doubled
-doubled-is j f x h ef ex eh = rw (ef, ex, eh)
 
 -- ---- the pass list
 

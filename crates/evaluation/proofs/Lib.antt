@@ -1,4 +1,2 @@
-pub mod Suspects
 pub mod Evaluating
-pub mod Comparing
 pub mod Asked

@@ -1,30 +1,15 @@
 -- The evaluation of an open book in form: the paper's answer as the code's records.
 use Prim.Native.Nat.{ℕ}
-use mathlib.Core.Path.{_≡_}
-use mathlib.Core.Bool.{true}
 use mathlib.Core.Option.{Option, none, some}
-use mathlib.Core.List.{List}
-use Rattle.paper.specs.Units.{Terms, Places, inRange, allNear}
+use Rattle.paper.specs.Units.{Terms, Places}
 use Rattle.paper.specs.Screening.{Suspect, firstSuspect}
-use Rattle.paper.specs.Figures.{doubles}
-use Rattle.paper.specs.Verdicts.{Evaluation, evaluation, verdict}
+use Rattle.paper.specs.Verdicts.{Evaluation, evaluation}
 use Rattle.paper.specs.Books.{Sight}
 use Rattle.paper.specs.Calls.{ask, evaluate}
 use Rattle.paper.specs.TurnedAway.{evaluated}
 use Rattle.paper.specs.Answers.{Value, done, lengths, count, evaluates, same, listed, Answer, nowhere, says}
-use Rattle.image.specs.Lengths.{termsOf}
-use Rattle.image.specs.Places.{placesOf}
-use Rattle.figures.specs.Judging.{evaluationIn, shownFrom, judgedFrom}
+use Rattle.figures.specs.Judging.{evaluationIn}
 use Rattle.evaluation.specs.declared.Judgement.{Judgement}
-use Rattle.evaluation.specs.declared.Evaluated.{Evaluated}
-
--- the words of an open book in form
-abbrev pub Formed : List ℕ → List ℕ → Type 0
-Formed t l = (inRange (termsOf t) ≡ true) × (allNear (termsOf t) 0 (placesOf l) ≡ true)
-
--- what the calls see of it. No call of this crate asks how many changes can be taken back (proofs/Asked.antt)
-abbrev pub sightOf : List ℕ → List ℕ → Sight
-sightOf t l = record { terms = termsOf t; places = placesOf l; count = 0 }
 
 -- the paper's answer, the book being number 1
 unfoldable pub answerTo : Sight → Answer
@@ -46,19 +31,6 @@ judgementBy n s e = record { refusal = n; series = s .series; set = s .set; quan
 
 unfoldable pub judgementOf : Answer → Judgement
 judgementOf a = judgementBy (a .refused) (a .suspect) (evaluationOf (a .value))
-
--- the same with doubles
-unfoldable pub doubled : Judgement → Evaluated
-doubled j =
-    record {
-      refusal = j .refusal;
-      series = j .series;
-      set = j .set;
-      quantity = j .quantity;
-      sheet = doubles (shownFrom (j .evaluation .sheet));
-      xy = verdict (judgedFrom (j .evaluation .xy));
-      h = verdict (judgedFrom (j .evaluation .h));
-    }
 
 -- ---- the ways out
 

@@ -1,4 +1,4 @@
--- Figures and verdicts in whole numbers and in doubles are the paper's.
+-- Figures and verdicts are the paper's.
 -- Assumes nothing.
 use Prim.Native.Nat.{ℕ, _-_, _*_, _≤_}
 use native.Mathlib.Omega.{arith}
@@ -6,22 +6,18 @@ use native.Mathlib.Nat.{mul-le-mul}
 use mathlib.Core.Path.{_≡_}
 use mathlib.Core.Bool.{Bool, true, false, _&&_}
 use lib.Dec.{leb}
-use lib.Ieee.{Float}
 use Rattle.whole.specs.Greatest.{greatestOf}
-use Rattle.whole.specs.Millimetres.{millimetresOf}
 use Rattle.paper.specs.Units.{Terms, Places}
-use Rattle.paper.specs.Figures.{shown, figures, doubles}
-use Rattle.paper.specs.Verdicts.{boundXY, boundH, judgedXY, judgedH, verdict, evaluation, bothWithin}
-use Rattle.paper.specs.declared.Sheet.{Sheet}
-use Rattle.paper.specs.declared.Verdict.the-variants.{Within, Beyond}
+use Rattle.paper.specs.Figures.{shown, figures}
+use Rattle.paper.specs.Verdicts.{boundXY, boundH, judgedXY, judgedH, evaluation, bothWithin}
 use Rattle.image.specs.Lengths.{len}
 use Rattle.image.proofs.Lengths.{len-pos}
-use Rattle.figures.specs.declared.Totals.{Totals}
+use Rattle.sums.specs.declared.Totals.{Totals}
 use Rattle.figures.specs.declared.Shown.{Shown}
 use Rattle.figures.specs.declared.Judged.{Judged}
 use Rattle.figures.specs.declared.Evaluation.{Evaluation}
-use Rattle.figures.specs.Sums.{totalsOf}
-use Rattle.figures.specs.Judging.{judgedIn, evaluationIn, shownFrom, judgedFrom, shownBy, withinBy, judgedBy}
+use Rattle.sums.specs.Sums.{totalsOf}
+use Rattle.figures.specs.Judging.{judgedIn, evaluationIn, shownBy, withinBy, judgedBy}
 
 pub shown-are : (s : Totals) (x y xy h : ℕ) → x ≡ shown (s .qx) → y ≡ shown (s .qy) → xy ≡ shown (s .p) → h ≡ shown (s .qh)
     → _≡_ {A = Shown} (record { sx = x; sy = y; sxy = xy; sh = h }) (shownBy s)
@@ -67,19 +63,3 @@ module _ (t : Terms) (l : Places) (s : Totals) (x h : Bool) (es : s ≡ totalsOf
 
   pub xy-beyond : x ≡ false → false ≡ bothWithin (evaluation t l)
   xy-beyond e = rw e at both-is
-
--- ---- in doubles
-
-pub sheet-is : (f : Shown) (x y xy h : Float) → x ≡ millimetresOf (f .sx) → y ≡ millimetresOf (f .sy) → xy ≡ millimetresOf (f .sxy) → h ≡ millimetresOf (f .sh)
-    → _≡_ {A = Sheet} (record { «s_x» = x; «s_y» = y; «s_xy» = xy; «s_h» = h }) (doubles (shownFrom f))
-unfolding doubles
-sheet-is f x y xy h ex ey exy eh = rw (ex, ey, exy, eh)
-
-module _ (j : Judged) (d b : Float) (ed : d ≡ millimetresOf (j .m)) (eb : b ≡ millimetresOf (j .b)) where
-  pub within-is : j .within ≡ true → Within d b ≡ verdict (judgedFrom j)
-  unfolding verdict
-  within-is e = rw (e, ed, eb)
-
-  pub beyond-is : j .within ≡ false → Beyond d b ≡ verdict (judgedFrom j)
-  unfolding verdict
-  beyond-is e = rw (e, ed, eb)

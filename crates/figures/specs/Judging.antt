@@ -7,7 +7,7 @@ use Rattle.whole.specs.Greatest.{greatestOf}
 use Rattle.paper.specs.Screening.{square}
 use Rattle.paper.specs.Figures.{shown, Shown}
 use Rattle.paper.specs.Verdicts.{Judged, Evaluation}
-use Rattle.figures.specs.declared.Totals.{Totals}
+use Rattle.sums.specs.declared.Totals.{Totals}
 use Rattle.figures.specs.declared.Shown as shownCode
 use Rattle.figures.specs.declared.Judged as judgedCode
 use Rattle.figures.specs.declared.Evaluation as evaluationCode
@@ -22,14 +22,6 @@ judgedIn j = record { within = j .within; m = j .m; b = j .b }
 
 abbrev pub evaluationIn : Evaluation → evaluationCode.Evaluation
 evaluationIn e = record { sheet = shownIn (e .sheet); xy = judgedIn (e .xy); h = judgedIn (e .h) }
-
--- ---- and back
-
-abbrev pub shownFrom : shownCode.Shown → Shown
-shownFrom f = record { sx = f .sx; sy = f .sy; sxy = f .sxy; sh = f .sh }
-
-abbrev pub judgedFrom : judgedCode.Judged → Judged
-judgedFrom j = record { within = j .within; m = j .m; b = j .b }
 
 -- ---- by the sums
 

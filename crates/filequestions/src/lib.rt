@@ -2,11 +2,12 @@
 ghost use mathlib.Core.Path.{_≡_};
 ghost use Rattle.paper.specs.Alone.{evaluatedFile};
 ghost use Rattle.figures.specs.Judging.{AllHeld};
-ghost use Rattle.evaluation.specs.Evaluating.{judgementOf, doubled};
+ghost use Rattle.evaluation.specs.Evaluating.{judgementOf};
+ghost use Rattle.doubles.specs.Doubles.{doubled};
 ghost use Rattle.fieldfile.specs.Reader.{readOf};
 ghost use Rattle.report.specs.Text.{reportOf};
 ghost use Rattle.report.specs.Given.{held};
-use evaluation::Evaluated;
+use doubles::Evaluated;
 use evaluation::Judgement;
 use report::Printed;
 use verdicts::Axis;
@@ -28,7 +29,7 @@ pub fn judge_file(file: &[u8]) -> Judgement
 pub fn evaluate_file(file: &[u8]) -> Evaluated
     ensures { λ r. ⌜ r ≡ doubled (judgementOf (evaluatedFile (readOf (now (file .entry))))) ⌝ }
 {
-    evaluation::in_millimetres(judge_file(file))
+    doubles::in_millimetres(judge_file(file))
 }
 
 // What the program prints of a file.

@@ -4,7 +4,7 @@ ghost use Prim.Native.Nat.{_≤_};
 ghost use lib.ListN.{length, drop};
 ghost use Rattle.image.specs.Changes.{zeros};
 ghost use Rattle.form.specs.Whole.{blank, sound, wordsForm};
-use paper::Procedure;
+use procedure::Procedure;
 
 // Words that are not used.
 fn zero_from(l: &[u64], from: usize) -> bool

@@ -2,3 +2,4 @@ pub mod Lengths
 pub mod Places
 pub mod Changes
 pub mod Ready
+pub mod Sights

@@ -3,7 +3,7 @@ ghost use mathlib.Core.Path.{_≡_};
 ghost use Prim.Native.Nat.{_<_};
 ghost use Rattle.image.specs.Lengths.{len, wordOr, termWordsOr, termsGiven};
 ghost use Rattle.image.specs.Places.{placeOf};
-use paper::Procedure;
+use procedure::Procedure;
 
 // The word of the length 0.
 pub const ZERO: u64 = 1000000000000;

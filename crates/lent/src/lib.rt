@@ -11,7 +11,7 @@ ghost use Rattle.lent.specs.Image.{BOOK, LENGTH, wordsOf, bookAt, inForm
 ghost use Rattle.lent.specs.Calls.{pickedOf, foundOf, turnedAway, placedAt};
 use book::Book;
 use book::Step;
-use paper::Procedure;
+use procedure::Procedure;
 
 pub struct Layout;
 

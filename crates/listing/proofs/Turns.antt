@@ -13,10 +13,10 @@ use Rattle.paper.specs.Procedure.{BOOKS}
 use Rattle.paper.specs.Books.{sight, sights}
 use Rattle.paper.specs.Screening.{each}
 use Rattle.paper.specs.TurnedAway.{onList, lowest, evaluating}
+use Rattle.image.specs.Sights.{sightOf}
 use Rattle.book.specs.declared.Book.{Book}
 use Rattle.book.specs.Meaning.{openOf, meant}
 use Rattle.book.proofs.Meaning.{meant-closed, meant-open}
-use Rattle.evaluation.specs.Evaluating.{sightOf}
 use Rattle.evaluation.proofs.Asked.{list-asked}
 use Rattle.lent.specs.Image.{BOOK, bookAt, meantFrom}
 use Rattle.lent.proofs.Image.{book-at}

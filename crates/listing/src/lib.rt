@@ -11,7 +11,7 @@ ghost use Rattle.paper.specs.TurnedAway.{onList, passing};
 ghost use Rattle.book.specs.Meaning.{meant};
 ghost use Rattle.lent.specs.Image.{BOOK, bookAt, meantFrom, inForm};
 use lent::Layout;
-use paper::Procedure;
+use procedure::Procedure;
 
 // Whether the book with that number, counted from 0, is on the list.
 fn on_list(register: &[u8], k: usize) -> bool

@@ -9,7 +9,7 @@ ghost use Rattle.paper.specs.TurnedAway.{some?};
 ghost use Rattle.image.specs.Lengths.{termsOf};
 ghost use Rattle.image.specs.Places.{allZero, spotAt, placesOf};
 ghost use Rattle.places.specs.Marks.{Marks};
-use paper::Procedure;
+use procedure::Procedure;
 
 // Three words that hold no reading.
 pub fn all_zero(x: u64, y: u64, h: u64) -> bool

@@ -1,35 +1,32 @@
-// What is asked of one book by itself, or of two: residual, evaluation, comparison. Any Book at all may be handed in.
+// What is asked of a book by itself: residual and evaluation. Any Book at all may be handed in.
 ghost use mathlib.Core.Path.{_≡_};
 ghost use mathlib.Core.Option.{some};
 ghost use Prim.Native.Nat.{_<_};
 ghost use Rattle.paper.specs.Procedure.{PLACES};
 ghost use Rattle.paper.specs.Calls.{residual, evaluate};
 ghost use Rattle.paper.specs.Answers.{residualAt};
-ghost use Rattle.paper.specs.Alone.{askedAlone, comparedAlone};
+ghost use Rattle.paper.specs.Alone.{askedAlone};
 ghost use Rattle.image.specs.Ready.{Ready};
+ghost use Rattle.image.specs.Sights.{sightOf};
 ghost use Rattle.book.specs.Meaning.{seen};
 ghost use Rattle.book.specs.Steps.{lengthsBy, lengthsOf};
-ghost use Rattle.figures.specs.Places.{placeAt};
+ghost use Rattle.sums.specs.Places.{placeAt};
 ghost use Rattle.figures.specs.Judging.{AllHeld};
-ghost use Rattle.evaluation.specs.Evaluating.{sightOf, judgementOf, doubled};
-ghost use Rattle.evaluation.specs.Comparing.{comparedOf};
-ghost use Rattle.questions.specs.Asked.{refusedOf};
+ghost use Rattle.evaluation.specs.Evaluating.{judgementOf};
+ghost use Rattle.doubles.specs.Doubles.{doubled};
 use book::Book;
 use book::Lengths;
-use evaluation::Compared;
-use evaluation::Evaluated;
+use doubles::Evaluated;
 use evaluation::Judgement;
-
-// ---- one book
 
 // 15·r along x, y and h at a place of a full book, counted from 0 in sheet order.
 fn residuals(terms: &[u64; 12], cells: &[u64; 90], place: usize) -> Lengths
     requires { ⌜ (place < PLACES) × Ready (now terms) (now cells) ⌝ }
     ensures { λ r. ⌜ r ≡ lengthsBy 0 (residualAt (placeAt place) (some (sightOf (now (terms .entry)) (now (cells .entry))))) ⌝ }
 {
-    let x = figures::residual(terms, cells, place, 0);
-    let y = figures::residual(terms, cells, place, 1);
-    let h = figures::residual(terms, cells, place, 2);
+    let x = sums::residual(terms, cells, place, 0);
+    let y = sums::residual(terms, cells, place, 1);
+    let h = sums::residual(terms, cells, place, 2);
     Lengths {
         refusal: 0,
         x: x,
@@ -76,47 +73,5 @@ pub fn evaluate(b: Book) -> Evaluated
     ensures { λ r. ⌜ r ≡ doubled (judgementOf (askedAlone evaluate (seen b))) ⌝ }
 {
     let judgement = judge(b);
-    evaluation::in_millimetres(judgement)
-}
-
-// ---- two books
-
-// REGISTER, PLACE or CLOSED of a comparison, each looked for in both books; 0 where none applies.
-fn refused(first: Book, second: Book, axis: u64) -> u64
-    ensures { λ r. ⌜ r ≡ refusedOf first second axis ⌝ }
-{
-    if book::in_form(first) {
-        if book::in_form(second) {
-            if axis < 1 {
-                return 2;
-            }
-            if axis > 2 {
-                return 2;
-            }
-            if first.opened == 0 {
-                return 5;
-            }
-            if second.opened == 0 {
-                return 5;
-            }
-            return 0;
-        }
-        return 1;
-    }
-    1
-}
-
-// The comparison of two books, the first against the second: axis 1 is xy, 2 is h.
-pub fn compare(first: Book, second: Book, axis: u64) -> Compared
-    ensures { λ r. ⌜ r ≡ comparedOf (comparedAlone axis (seen first) (seen second)) ⌝ }
-{
-    let refusal = refused(first, second, axis);
-    if refusal != 0 {
-        return evaluation::not_compared(refusal, 0, 0, 0);
-    }
-    let t1 = first.terms;
-    let c1 = first.cells;
-    let t2 = second.terms;
-    let c2 = second.cells;
-    evaluation::compare(&t1, &c1, &t2, &c2, axis)
+    doubles::in_millimetres(judgement)
 }

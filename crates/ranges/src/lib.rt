@@ -7,7 +7,7 @@ ghost use lib.IntN.{_-ℤ_};
 ghost use Rattle.paper.specs.Units.{from1To, upTo, onEarth, within, inRange, near, pointOf};
 ghost use Rattle.image.specs.Lengths.{len, triple, tripleAt, termsOf};
 use image::ZERO;
-use paper::Procedure;
+use procedure::Procedure;
 
 // A length from 1 to n.
 fn one_to(n: u64, w: u64) -> bool

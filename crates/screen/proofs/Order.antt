@@ -10,7 +10,8 @@ use Rattle.paper.specs.Procedure.{SERIES, SETS}
 use Rattle.paper.specs.Units.{Terms, Places}
 use Rattle.paper.specs.Screening.{Suspect, suspicious, each, sheetOrder, None, first, firstSuspect}
 use Rattle.paper.proofs.Agreement.{first-is, first-past, none-app}
-use Rattle.screen.specs.Named.{distance, height, foundOf}
+use Rattle.sets.specs.Words.{distance, height}
+use Rattle.screen.specs.Named.{foundOf}
 use Rattle.screen.specs.declared.Found.the-variants.{Nowhere, At}
 
 -- ---- over any list and test

@@ -1,37 +1,8 @@
--- The words of a set, its q and its two quantities, the greatest difference that passes, and what the code says of the first suspect.
-use Prim.Native.Nat.{ℕ, _+_, _-_, _*_, _≤_}
-use mathlib.Core.List.{List}
-use lib.ListN.{getD}
+-- What the code says of the first suspect.
 use mathlib.Core.Option.{Option, none, some}
-use lib.IntN.{ℤ, _-ℤ_}
-use Rattle.whole.specs.Greatest.{greatestOf}
-use Rattle.paper.specs.Procedure.{SETS, POINTS}
-use Rattle.paper.specs.Screening.{square, Suspect}
-use Rattle.image.specs.Lengths.{tripleAt}
+use Rattle.paper.specs.Screening.{Suspect}
 use Rattle.screen.specs.declared.Found.{Found}
 use Rattle.screen.specs.declared.Found.the-variants.{Nowhere, At}
-
--- where the words of a set start
-abbrev pub wordsFrom : ℕ → ℕ → ℕ
-wordsFrom i j = ((i - 1) * SETS + (j - 1)) * POINTS * 3
-
--- the words of one axis (0 x, 1 y, 2 h) differ by at most 700,000
-abbrev pub Near : List ℕ → ℕ → ℕ → Type 0
-Near l m a = (getD l (m + (3 + a)) 0 ≤ getD l (m + a) 0 + 700000) × (getD l (m + a) 0 ≤ getD l (m + (3 + a)) 0 + 700000) × (getD l (m + (3 + a)) 0 ≤ 1100000100000)
-
--- q of the set whose words start at m
-unfoldable pub qOf : List ℕ → ℕ → ℕ
-qOf l m = square (tripleAt l (m + 3) .x -ℤ tripleAt l m .x) + square (tripleAt l (m + 3) .y -ℤ tripleAt l m .y)
-
-abbrev pub distance : ℕ → ℕ → Suspect
-distance i j = record { series = i; set = j; quantity = 1 }
-
-abbrev pub height : ℕ → ℕ → Suspect
-height i j = record { series = i; set = j; quantity = 2 }
-
--- the greatest d with 2·d² <= 25·s² (proofs/Limits.antt: exactly those up to it pass)
-unfoldable pub mostPassing : ℤ → ℕ
-mostPassing s = greatestOf 2 (25 * square s)
 
 abbrev pub foundOf : Option Suspect → Found
 foundOf none = Nowhere

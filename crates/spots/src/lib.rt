@@ -9,7 +9,7 @@ ghost use Rattle.decimals.specs.Given.{Gives, Nothing};
 ghost use Rattle.fieldfile.specs.Reader.{tag, spot};
 ghost use Rattle.spots.specs.Given.{Placed};
 use decimals::Read;
-use paper::Procedure;
+use procedure::Procedure;
 
 // The set and the point of place k of a series.
 fn tag_at(s: &[u8], at: usize, k: usize) -> Read

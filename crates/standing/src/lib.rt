@@ -8,7 +8,7 @@ ghost use Rattle.image.specs.Lengths.{termsOf};
 ghost use Rattle.image.specs.Places.{placesOf};
 ghost use Rattle.image.specs.Changes.{entries};
 ghost use Rattle.standing.specs.Marked.{fitsMarked};
-use paper::Procedure;
+use procedure::Procedure;
 
 // A change that can be taken back from places with these marks.
 fn change_ok(t: &[u64; 12], marks: &[u64; 30], place: u64, x: u64, y: u64, h: u64) -> bool

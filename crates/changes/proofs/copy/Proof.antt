@@ -1,14 +1,12 @@
-use Prim.Native.Nat.{_≤_, _<_, _-_, _*_, _+_}
-use mathlib.Core.Path.{_≡_, refl, sym, ap, _∙_}
-use mathlib.Core.List.{_++_, append-nil, append-assoc}
+use Prim.Native.Nat.{_≤_, _<_, _-_, _+_}
+use mathlib.Core.Path.{_≡_, refl, _∙_}
+use mathlib.Core.List.{_++_, append-nil}
 use native.Mathlib.Omega.{arith}
 use lib.ListN.{length, take, drop, length-set}
 use lib.Seq.{drop-length, take-length}
 use Rattle.changes.proofs.Turns.{copy-turn}
 use Rattle.changes.proofs.copy.Statement.{statement}
 use Rattle.changes.proofs.copy.Tie as tie
-use Rattle.changes.proofs.copy.Reads as reads
-use Rattle.changes.proofs.copy.Lts as lts
 
 abbrev Inv-loop : tie.InvT-loop
 Inv-loop from out₀ i₀ out i = (i ≤ length from) × (length out ≡ length out₀) × (out ≡ take i from ++ drop i out₀)

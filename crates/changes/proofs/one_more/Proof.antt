@@ -2,8 +2,6 @@ use borrow.Author.Tests.{lt-ltb, le-ltb}
 use borrow.Author.Needs.{needs}
 use Rattle.changes.proofs.one_more.Statement.{statement}
 use Rattle.changes.proofs.one_more.Tie as tie
-use Rattle.changes.proofs.one_more.Reads as reads
-use Rattle.changes.proofs.one_more.Lts as lts
 
 add-result : tie.Need-add-result
 add-result c = search needs

@@ -6,9 +6,6 @@ use Rattle.changes.specs.Kept.{popped}
 use borrow.Author.Needs.{needs}
 use Rattle.changes.proofs.pop.Statement.{statement}
 use Rattle.changes.proofs.pop.Tie as tie
-use Rattle.changes.proofs.pop.Reads as reads
-use Rattle.changes.proofs.pop.Lts as lts
-use Rattle.changes.proofs.copy.Reads as copy-reads
 
 sub-copy : tie.Need-sub-copy
 sub-copy c = search needs

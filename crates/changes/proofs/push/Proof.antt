@@ -2,9 +2,6 @@ use Rattle.changes.proofs.Turns.{pushed-eq}
 use borrow.Author.Needs.{needs}
 use Rattle.changes.proofs.push.Statement.{statement}
 use Rattle.changes.proofs.push.Tie as tie
-use Rattle.changes.proofs.push.Reads as reads
-use Rattle.changes.proofs.push.Lts as lts
-use Rattle.changes.proofs.copy.Reads as copy-reads
 
 array-write-out : tie.Need-array-write-out
 array-write-out c = search needs

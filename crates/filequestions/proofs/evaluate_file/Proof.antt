@@ -1,11 +1,11 @@
 use mathlib.Core.Path.{ap, _∙_}
-use Rattle.evaluation.specs.Evaluating.{doubled}
+use Rattle.doubles.specs.Doubles.{doubled}
 use borrow.Author.Needs.{needs}
 use Rattle.filequestions.proofs.evaluate_file.Statement.{statement}
 use Rattle.filequestions.proofs.evaluate_file.Tie as tie
 use Rattle.filequestions.proofs.evaluate_file.Reads as reads
 use Rattle.filequestions.proofs.evaluate_file.Lts as lts
-use Rattle.evaluation.proofs.in_millimetres.Reads as in-millimetres-reads
+use Rattle.doubles.proofs.in_millimetres.Reads as in-millimetres-reads
 use Rattle.filequestions.proofs.judge_file.Reads as judge-file-reads
 
 judge-file-requires : tie.Need-judge-file-requires

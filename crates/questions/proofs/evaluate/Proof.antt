@@ -1,6 +1,6 @@
 -- `questions::evaluate` meets its contract. Assumes nothing.
 use mathlib.Core.Path.{ap, _∙_}
-use Rattle.evaluation.specs.Evaluating.{doubled}
+use Rattle.doubles.specs.Doubles.{doubled}
 use borrow.Author.Needs.{needs}
 use Rattle.questions.proofs.evaluate.Statement.{statement}
 use Rattle.questions.proofs.evaluate.Tie as tie

@@ -1,7 +1,8 @@
 -- `questions::judge` meets its contract. Assumes nothing.
 use mathlib.Core.Path.{_∙_}
 use Rattle.form.proofs.Laws.{known}
-use Rattle.questions.proofs.Asks.{words-formed, judged-unformed, judged-closed, judged-open}
+use Rattle.questions.proofs.Opened.{words-formed}
+use Rattle.questions.proofs.Asks.{judged-unformed, judged-closed, judged-open}
 use borrow.Author.Needs.{needs}
 use Rattle.questions.proofs.judge.Statement.{statement}
 use Rattle.questions.proofs.judge.Tie as tie

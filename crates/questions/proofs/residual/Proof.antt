@@ -6,7 +6,8 @@ use Rattle.places.proofs.Meets.{ready}
 use Rattle.book.specs.declared.Aim.{Aim}
 use Rattle.book.proofs.Meaning.{Sized}
 use Rattle.book.proofs.Steps.{place-small}
-use Rattle.questions.proofs.Asks.{words-formed, residual-refused, aimed, on-opened, residual-short, residual-full}
+use Rattle.questions.proofs.Opened.{words-formed}
+use Rattle.questions.proofs.Asks.{residual-refused, aimed, on-opened, residual-short, residual-full}
 use borrow.Author.Needs.{needs}
 use Rattle.questions.proofs.residual.Statement.{statement}
 use Rattle.questions.proofs.residual.Tie as tie

@@ -8,7 +8,7 @@ use Rattle.book.proofs.Book.changed.Reads as reads
 use Rattle.book.proofs.Book.changed.Lts as lts
 use Rattle.changes.proofs.keep.Reads as keep-reads
 use Rattle.changes.proofs.one_more.Reads as one-more-reads
-use Rattle.changes.proofs.put.Reads as put-reads
+use Rattle.placing.proofs.put.Reads as put-reads
 
 keep-requires : tie.Need-keep-requires
 keep-requires c κs = search needs

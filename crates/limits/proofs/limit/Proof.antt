@@ -1,0 +1,28 @@
+-- `limits::limit` meets its contract. Assumes nothing.
+use Prim.Native.Nat.{_-_, _≤_}
+use native.Mathlib.Omega.{arith}
+use borrow.Author.Needs.{needs}
+use Rattle.limits.proofs.Limits.{squared, limit-is}
+use Rattle.limits.proofs.limit.Statement.{statement}
+use Rattle.limits.proofs.limit.Tie as tie
+
+-- a screening length is at most 10,000
+least : (c : tie.Start) → c .args .s - 1000000000000 ≤ 10000
+least c = omega (arith, c .pre)
+
+sub-k : tie.Need-sub-k
+sub-k c = search needs
+
+mul-result : tie.Need-mul-result
+mul-result c = omega (arith, squared (least c))
+
+mul-result-2 : tie.Need-mul-result-2
+mul-result-2 c = omega (arith, squared (least c))
+
+returns : tie.Need-returns
+returns c =
+    let low : 1000000000000 ≤ c .args .s = omega arith in
+    (limit-is (c .args .s) low, omega (arith, squared (least c)))
+
+pub limit-spec : {M : Type 1} → statement M
+limit-spec = tie.close (tie.spec sub-k mul-result mul-result-2 returns)

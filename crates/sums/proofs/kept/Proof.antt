@@ -1,0 +1,70 @@
+-- `sums::kept` meets its contract. Assumes nothing.
+use native.Mathlib.Omega.{arith}
+use mathlib.Core.Path.{refl}
+use borrow.Author.Needs.{needs}
+use Rattle.image.proofs.Ready.{kept-fits, kept-low, kept-small}
+use Rattle.sums.proofs.kept.Statement.{statement}
+use Rattle.sums.proofs.kept.Tie as tie
+
+sub-from : tie.Need-sub-from
+sub-from c = search needs
+
+mul-from : tie.Need-mul-from
+mul-from c = search needs
+
+add-from : tie.Need-add-from
+add-from c = search needs
+
+mul-result : tie.Need-mul-result
+mul-result c = search needs
+
+add-result : tie.Need-add-result
+add-result c = search needs
+
+mul-result-2 : tie.Need-mul-result-2
+mul-result-2 c = search needs
+
+element-copy-out-result : tie.Need-element-copy-out-result
+element-copy-out-result c = search needs
+
+add-result-2 : tie.Need-add-result-2
+add-result-2 c =
+    let s = c .before in
+    omega (arith, kept-low (s .args .terms .now) (s .args .cells .now) (s .pre .4) (s .args .point) (s .args .axis) (s .pre .0) (s .pre .1) (s .pre .2) (s .args .i) (s .pre .3))
+
+add-result-3 : tie.Need-add-result-3
+add-result-3 c = search needs
+
+mul-result-3 : tie.Need-mul-result-3
+mul-result-3 c = search needs
+
+element-copy-out-result-2 : tie.Need-element-copy-out-result-2
+element-copy-out-result-2 c = search needs
+
+sub-result : tie.Need-sub-result
+sub-result c =
+    let s = c .before .before in
+    kept-fits (s .args .terms .now) (s .args .cells .now) (s .pre .4) (s .args .point) (s .args .axis) (s .pre .0) (s .pre .1) (s .pre .2) (s .args .i) (s .pre .3)
+
+returns : tie.Need-returns
+returns c =
+    let s = c .before .before in
+    (refl, kept-small (s .args .terms .now) (s .args .cells .now) (s .pre .4) (s .args .point) (s .args .axis) (s .pre .0) (s .pre .1) (s .pre .2) (s .args .i) (s .pre .3))
+
+pub kept-spec : {M : Type 1} → statement M
+kept-spec =
+    tie.close
+    (tie.spec
+    sub-from
+    mul-from
+    add-from
+    mul-result
+    add-result
+    mul-result-2
+    element-copy-out-result
+    add-result-2
+    add-result-3
+    mul-result-3
+    element-copy-out-result-2
+    sub-result
+    returns)

@@ -1,0 +1,36 @@
+-- The sums that the code makes of the words of a full book.
+use Prim.Native.Nat.{ℕ, _+_, _-_, _*_, _≤_}
+use mathlib.Core.Path.{_≡_}
+use mathlib.Core.List.{List}
+use Rattle.integers.specs.Sigma.{ΣN}
+use Rattle.paper.specs.Procedure.{ROUNDS}
+use Rattle.paper.specs.Units.{Terms, Places}
+use Rattle.paper.specs.Figures.{Qx, Qy, Qh, P}
+use Rattle.image.proofs.Ready.{kept}
+use Rattle.sums.specs.declared.Added.{Added}
+use Rattle.sums.specs.declared.Totals.{Totals}
+
+-- the kept numbers of point k and axis a (0 x, 1 y, 2 h), in the order of the sheet
+abbrev pub keptOf : List ℕ → List ℕ → ℕ → ℕ → ℕ → ℕ
+keptOf t l k a = kept t l ((k - 1) * 3 + a)
+
+-- s is their sum, q the sum of their squares
+pub record Adds (t l : List ℕ) (k a : ℕ) (r : Added) : Type 0 where
+  pub s : r .s ≡ ΣN ROUNDS (keptOf t l k a)
+  pub q : r .q ≡ ΣN ROUNDS (λ (i : ℕ). keptOf t l k a i * keptOf t l k a i)
+  pub s-most : r .s ≤ 3000000
+  pub q-most : r .q ≤ 200000 * r .s
+
+-- the four sums of the paper
+unfoldable pub totalsOf : Terms → Places → Totals
+totalsOf t l = record { qx = Qx t l; qy = Qy t l; p = P t l; qh = Qh t l }
+
+-- how great they are at most: 1,048,576 times as much fits a word
+abbrev pub Modest : ℕ → Type 0
+Modest sum = sum ≤ 9000000000000
+
+pub record AllModest (s : Totals) : Type 0 where
+  pub qx : Modest (s .qx)
+  pub qy : Modest (s .qy)
+  pub p : Modest (s .p)
+  pub qh : Modest (s .qh)

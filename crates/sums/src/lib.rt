@@ -1,0 +1,102 @@
+// The sums and the residuals of a full book in form, in whole numbers, from its words.
+ghost use mathlib.Core.Path.{_≡_};
+ghost use Prim.Native.Nat.{_≤_, _<_};
+ghost use Rattle.paper.specs.Procedure.{POINTS, ROUNDS, PLACES};
+ghost use Rattle.paper.specs.Figures.{Q, both, residual15};
+ghost use Rattle.image.specs.Lengths.{termsOf};
+ghost use Rattle.image.specs.Places.{placesOf, axisOf};
+ghost use Rattle.image.specs.Ready.{Ready};
+ghost use Rattle.sums.specs.Sums.{keptOf, Adds, totalsOf, AllModest};
+ghost use Rattle.sums.specs.Places.{placeAt};
+use procedure::Procedure;
+
+// The words of a set: x, y, h of each point.
+const SET: usize = Procedure::POINTS * 3;
+
+// Where the approximate values stand among the terms.
+const APPROXIMATE: usize = 6;
+
+// Reading i of a point along an axis (0 x, 1 y, 2 h), kept as its offset + 100,000.
+fn kept(terms: &[u64; 12], cells: &[u64; 90], point: usize, axis: usize, i: usize) -> u64
+    requires { ⌜ (1 ≤ point) × (point ≤ POINTS) × (axis < 3) × (i < ROUNDS) × Ready (now terms) (now cells) ⌝ }
+    ensures { λ r. ⌜ (r ≡ keptOf (now (terms .entry)) (now (cells .entry)) point axis i) × (r ≤ 200000) ⌝ }
+{
+    let from = (point - 1) * 3 + axis;
+    cells[i * SET + from] + 100000 - terms[APPROXIMATE + from]
+}
+
+// The sum of kept numbers, and the sum of their squares.
+struct Added {
+    s: u64,
+    q: u64,
+}
+
+// Both sums of the 15 kept numbers of a point and an axis.
+fn added_up(terms: &[u64; 12], cells: &[u64; 90], point: usize, axis: usize) -> Added
+    requires { ⌜ (1 ≤ point) × (point ≤ POINTS) × (axis < 3) × Ready (now terms) (now cells) ⌝ }
+    ensures { λ r. ⌜ Adds (now (terms .entry)) (now (cells .entry)) point axis r ⌝ }
+{
+    let mut s: u64 = 0;
+    let mut q: u64 = 0;
+    for i in 0..Procedure::ROUNDS {
+        let u = kept(terms, cells, point, axis, i);
+        s += u;
+        q += u * u;
+    }
+    Added { s: s, q: q }
+}
+
+// Q of a point and an axis.
+fn spread(terms: &[u64; 12], cells: &[u64; 90], point: usize, axis: usize) -> u64
+    requires { ⌜ (1 ≤ point) × (point ≤ POINTS) × (axis < 3) × Ready (now terms) (now cells) ⌝ }
+    ensures { λ r. ⌜ (r ≡ Q (termsOf (now (terms .entry))) (placesOf (now (cells .entry))) (axisOf axis) point) × (r ≤ 2250000000000) ⌝ }
+{
+    let sums = added_up(terms, cells, point, axis);
+    Procedure::ROUNDS as u64 * sums.q - sums.s * sums.s
+}
+
+// 15·r of the reading at a place, counted from 0 in sheet order, along an axis.
+pub fn residual(terms: &[u64; 12], cells: &[u64; 90], place: usize, axis: usize) -> i64
+    requires { ⌜ (place < PLACES) × (axis < 3) × Ready (now terms) (now cells) ⌝ }
+    ensures { λ r. ⌜ r ≡ residual15 (termsOf (now (terms .entry))) (placesOf (now (cells .entry))) (placeAt place) (axisOf axis) ⌝ }
+{
+    let point = place % Procedure::POINTS + 1;
+    let sums = added_up(terms, cells, point, axis);
+    let u = kept(terms, cells, point, axis, place / Procedure::POINTS);
+    (sums.s as i64) - ((Procedure::ROUNDS as u64 * u) as i64)
+}
+
+// The sum of Q over both points.
+fn both(terms: &[u64; 12], cells: &[u64; 90], axis: usize) -> u64
+    requires { ⌜ (axis < 3) × Ready (now terms) (now cells) ⌝ }
+    ensures { λ r. ⌜ (r ≡ both (termsOf (now (terms .entry))) (placesOf (now (cells .entry))) (axisOf axis)) × (r ≤ 4500000000000) ⌝ }
+{
+    let first = spread(terms, cells, 1, axis);
+    let second = spread(terms, cells, 2, axis);
+    first + second
+}
+
+// Qx, Qy, P and Qh.
+pub struct Totals {
+    pub qx: u64,
+    pub qy: u64,
+    pub p: u64,
+    pub qh: u64,
+}
+
+// The four sums of a book.
+pub fn sums(terms: &[u64; 12], cells: &[u64; 90]) -> Totals
+    requires { ⌜ Ready (now terms) (now cells) ⌝ }
+    ensures { λ r. ⌜ (r ≡ totalsOf (termsOf (now (terms .entry))) (placesOf (now (cells .entry)))) × AllModest r ⌝ }
+{
+    let x = both(terms, cells, 0);
+    let y = both(terms, cells, 1);
+    let h = both(terms, cells, 2);
+    let xy = x + y;
+    Totals {
+        qx: x,
+        qy: y,
+        p: xy,
+        qh: h,
+    }
+}
