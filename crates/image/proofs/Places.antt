@@ -154,15 +154,6 @@ cells-set (w ∷ l) (suc p) v h = rw (cells-set l p v (omega arith)) (sym (step 
     step none = pasted-cons 0 0 0 (cellsOf l) p (spotWords v)
     step (some r) = pasted-cons (word (r .x)) (word (r .y)) (word (r .h)) (cellsOf l) p (spotWords v)
 
-pub spots-set : (n : ℕ) (l : List ℕ) (p x y h : ℕ) → length l ≡ 3 * n → p < n → spots n (pasted l (p * 3) (x ∷ y ∷ h ∷ [])) ≡ set (spots n l) p (spotOf x y h)
-unfolding spots pasted
-spots-set zero l p x y h e k = absurd (omega arith)
-spots-set (suc n) [] p x y h e k = absurd (omega arith)
-spots-set (suc n) (a ∷ []) p x y h e k = absurd (omega arith)
-spots-set (suc n) (a ∷ b ∷ []) p x y h e k = absurd (omega arith)
-spots-set (suc n) (a ∷ b ∷ c ∷ l) zero x y h e k = refl
-spots-set (suc n) (a ∷ b ∷ c ∷ l) (suc p) x y h e k = rw (pasted-cons a b c l p (x ∷ y ∷ h ∷ []), spots-set n l p x y h (omega arith) (omega arith))
-
 -- ---- the number of a place
 
 pub place-out : (p : Place) → PLACES ≤ placeOf p → inSheet p ≡ false
