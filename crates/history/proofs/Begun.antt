@@ -19,7 +19,8 @@ use Rattle.paper.proofs.History.{fresh-formed, from-fresh, from-form}
 use Rattle.paper.proofs.Words.{Bare, bare}
 use Rattle.lent.specs.Image.{LENGTH, stateOf}
 use Rattle.lent.specs.Calls.{shut, callOn, called}
-use Rattle.lent.proofs.Image.{Bytes, state-image, fresh-image}
+use Rattle.stored.proofs.Image.{Bytes}
+use Rattle.lent.proofs.Image.{state-image, fresh-image}
 use Rattle.history.specs.Runs.{answerOn, ran}
 use Rattle.history.specs.Claim.{readAs, HoldsOn}
 use Rattle.history.proofs.Carried.{holds-on}

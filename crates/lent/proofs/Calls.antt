@@ -21,9 +21,11 @@ use Rattle.book.specs.declared.Book.{Book}
 use Rattle.form.specs.Whole.{blank, wordsForm}
 use Rattle.book.specs.Meaning.{bookOf, meant, bookForm, seen}
 use Rattle.book.proofs.Meaning.{seen-in}
-use Rattle.lent.specs.Image.{BOOK, LENGTH, image, bookAt, meantFrom, inForm, stateOf}
+use Rattle.stored.specs.Image.{BOOK, bookAt}
+use Rattle.stored.proofs.Image.{Bytes}
+use Rattle.lent.specs.Image.{LENGTH, image, meantFrom, inForm, stateOf}
 use Rattle.lent.specs.Calls.{callOn, called, Calls, pickedOf, unformed, foundOf, turnedAway}
-use Rattle.lent.proofs.Image.{Bytes, form-length, form-at, book-at, state-in, state-out, form-image-is}
+use Rattle.lent.proofs.Image.{form-length, form-at, book-at, state-in, state-out, form-image-is}
 
 -- ---- the book of a number
 

@@ -1,11 +1,11 @@
 -- A call on one book leaves every byte of the others.
 -- Assumes nothing.
-use Prim.Native.Nat.{ℕ, zero, suc, _+_, _-_, _*_, _≤_, _<_}
+use Prim.Native.Nat.{ℕ, zero, suc, _+_, _*_, _<_}
 use native.Mathlib.Omega.{arith}
 use mathlib.Core.Path.{_≡_, refl, sym, ap, _∙_}
 use mathlib.Core.Logic.{_≢_}
-use mathlib.Core.Bool.{Bool, true, false, _&&_}
-use mathlib.Core.Option.{Option, none, some}
+use mathlib.Core.Bool.{Bool, true, false}
+use mathlib.Core.Option.{Option, none}
 use mathlib.Core.List.{List, [], _∷_, _++_}
 use lib.ListN.{length, getD, take, drop}
 use lib.Seq.{getD-set-other, drop-drop, take-at, drop-at}
@@ -14,12 +14,14 @@ use Rattle.paper.specs.Books as paper
 use Rattle.paper.specs.Calls.{Act, on, effect, affected}
 use Rattle.paper.specs.TurnedAway.{refusal}
 use Rattle.paper.specs.Answers.{unless, after}
-use Rattle.paper.specs.Form.{formedO, InForm}
+use Rattle.paper.specs.Form.{formedO}
 use Rattle.paper.proofs.Tests.{and-left, and-right}
 use Rattle.paper.proofs.History.{formed-after}
-use Rattle.lent.specs.Image.{BOOK, bookBytes, image, meantFrom, inForm, stateOf}
+use Rattle.stored.specs.Image.{BOOK, bookBytes}
+use Rattle.stored.proofs.Image.{Bytes, length-book}
+use Rattle.lent.specs.Image.{image, meantFrom, inForm, stateOf}
 use Rattle.lent.specs.Calls.{callOn, called}
-use Rattle.lent.proofs.Image.{Bytes, allFormed, formed-in, length-book, state-in, state-out, form-image-is, form-state}
+use Rattle.lent.proofs.Image.{allFormed, formed-in, state-in, state-out, form-image-is, form-state}
 
 -- the bytes of book i, counted from 0
 abbrev pub bytesAt : List ℕ → ℕ → List ℕ

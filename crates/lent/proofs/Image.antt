@@ -1,46 +1,30 @@
 -- Bytes and registers go together: one state, one image.
 -- Assumes nothing.
-use Prim.Native.Nat.{ℕ, zero, suc, _+_, _-_, _*_, _^_, _≤_, _<_}
+use Prim.Native.Nat.{ℕ, zero, suc, _+_, _-_, _*_, _≤_, _<_}
 use native.Mathlib.Omega.{arith}
 use native.Mathlib.Nat.{zero-add}
 use mathlib.Core.Path.{_≡_, refl, sym, ap, _∙_, subst}
 use mathlib.Core.Bool.{Bool, true, false, cond, _&&_}
 use mathlib.Core.Option.{Option, none, some}
-use mathlib.Core.List.{List, [], _∷_, _++_, append-assoc}
-use lib.ListN.{length, getD, set, take, drop, replicate, length-append, length-drop, take-append-drop}
-use lib.Seq.{drop-drop, getD-drop, drop-at, length-take-le}
+use mathlib.Core.List.{List, [], _∷_, _++_}
+use lib.ListN.{length, getD, set, drop, replicate, length-append, length-drop, take-append-drop}
+use lib.Seq.{drop-drop, getD-drop, drop-at}
 use lib.Dec.{eqb}
 use borrow.Author.Tests.{eq-eqb, ne-eqb, eqb-true}
-use Rattle.paper.specs.Procedure.{BOOKS, KEPT}
+use Rattle.paper.specs.Procedure.{BOOKS}
 use Rattle.paper.specs.Books as paper
 use Rattle.paper.specs.Form.{formedO, InForm}
 use Rattle.paper.proofs.Tests.{and-left, and-right, and-both}
-use Rattle.paper.proofs.Form.{parts}
-use Rattle.words.specs.Words.{le, words, digits, bytesOf}
 use Rattle.words.specs.Paste.{pasted}
-use Rattle.words.proofs.Words.{length-words, length-bytesOf, bytesOf-words, words-add}
-use Rattle.words.proofs.Paste.{words-take}
-use Rattle.image.proofs.Bounds.{Small, small-nil, small-cons, small-terms, small-cells, small-changes, places-short}
 use Rattle.book.specs.declared.Book.{Book}
-use Rattle.book.specs.Meaning.{bookOf, meant, bookForm}
-use Rattle.book.proofs.Meaning.{Sized, form-book, form-formed, meant-image, form-image, sized-image}
-use Rattle.lent.specs.Image.{BOOK, LENGTH, wordsOf, bookBytes, image, bookAt, formFrom, meantFrom, inForm, stateOf}
-use Rattle.lent.proofs.Stored.{Fit, read-back}
-
-abbrev pub Bytes : List ℕ → Type 0
-Bytes bs = (i : ℕ) → getD bs i 0 < 256
+use Rattle.book.specs.Meaning.{meant, bookForm}
+use Rattle.book.proofs.Meaning.{form-book, form-formed, meant-image, form-image}
+use Rattle.stored.specs.Image.{BOOK, bookBytes, bookAt}
+use Rattle.stored.proofs.Image.{Bytes, sized-at, book-drop, bytes-book, length-book, paste-start, book-front, closed-bytes}
+use Rattle.lent.specs.Image.{LENGTH, image, formFrom, meantFrom, inForm, stateOf}
 
 bytes-drop : (m : ℕ) (bs : List ℕ) → Bytes bs → Bytes (drop m bs)
 bytes-drop m bs h i = rw getD-drop (h (m + i))
-
-pub sized-at : (bs : List ℕ) (a : ℕ) → Sized (bookAt bs a)
-unfolding bookAt
-sized-at bs a =
-    record { terms-12 = length-words 12 (drop (a + 8) bs); cells-90 = length-words 90 (drop (a + 104) bs); changes-128 = length-words 128 (drop (a + 832) bs) }
-
-book-drop : (bs : List ℕ) (a : ℕ) → bookAt (drop a bs) 0 ≡ bookAt bs a
-unfolding bookAt
-book-drop bs a = rw (drop-drop 8 a bs, drop-drop 104 a bs, drop-drop 824 a bs, drop-drop 832 a bs)
 
 -- the book after the first k of those behind the first
 book-on : (bs : List ℕ) (k : ℕ) → bookAt (drop BOOK bs) (k * BOOK) ≡ bookAt bs (suc k * BOOK)
@@ -99,29 +83,6 @@ pub form-at : (bs : List ℕ) (k : ℕ) → inForm bs ≡ true → k < BOOKS →
 form-at bs k e h = form-some BOOKS bs k (form-all bs e) h
 
 -- ---- bytes to register to bytes
-
-one : (l : List ℕ) → words 1 l ≡ le (take 8 l) ∷ []
-unfolding words
-one l = refl
-
-words-book : (bs : List ℕ) → wordsOf (bookAt bs 0) ≡ words 232 bs
-unfolding wordsOf bookAt
-words-book bs =
-    let d₁ : words 231 (drop 8 bs) ≡ words 12 (drop 8 bs) ++ words 219 (drop 104 bs) = words-add 12 219 (drop 8 bs) ∙ ap (λ (l : List ℕ). words 12 (drop 8 bs) ++ words 219 l) (drop-drop 96 8 bs) in
-    let d₂ : words 219 (drop 104 bs) ≡ words 90 (drop 104 bs) ++ words 129 (drop 824 bs) = words-add 90 129 (drop 104 bs) ∙ ap (λ (l : List ℕ). words 90 (drop 104 bs) ++ words 129 l) (drop-drop 720 104 bs) in
-    let d₃ : words 129 (drop 824 bs) ≡ words 1 (drop 824 bs) ++ words 128 (drop 832 bs) = words-add 1 128 (drop 824 bs) ∙ ap (λ (l : List ℕ). words 1 (drop 824 bs) ++ words 128 l) (drop-drop 8 824 bs) in
-    sym (words-add 1 231 bs ∙ rw (d₁, d₂, d₃, one bs, one (drop 824 bs)) (simp append-assoc))
-
-bytes-take : (n : ℕ) (l : List ℕ) → Bytes l → Bytes (take n l)
-bytes-take zero l h i = omega arith
-bytes-take (suc n) [] h i = omega arith
-bytes-take (suc n) (b ∷ l) h zero = h 0
-bytes-take (suc n) (b ∷ l) h (suc i) = bytes-take n l (λ j. h (suc j)) i
-
-bytes-book : (bs : List ℕ) → BOOK ≤ length bs → Bytes bs → bytesOf (wordsOf (bookAt bs 0)) ≡ take BOOK bs
-bytes-book bs h y =
-    let l : length (take BOOK bs) ≡ 8 * 232 = length-take-le BOOK bs h in
-    ap bytesOf (words-book bs ∙ sym (words-take 232 bs)) ∙ bytesOf-words 232 (take BOOK bs) l (bytes-take BOOK bs y)
 
 nil-of : (l : List ℕ) → length l ≡ 0 → [] ≡ l
 nil-of [] e = refl
@@ -193,17 +154,6 @@ formed-meant (suc n) bs e =
 
 -- ---- one book put
 
-length-image : (b : Book) → Sized b → length (bytesOf (wordsOf b)) ≡ BOOK
-unfolding wordsOf
-length-image b s =
-    let a = s .terms-12 in
-    let d = s .cells-90 in
-    let e = s .changes-128 in
-    rw length-bytesOf (simp length-append (omega arith))
-
-pub length-book : (o : Option paper.Book) → formedO o ≡ true → length (bookBytes o) ≡ BOOK
-length-book o e = length-image (bookOf o) (sized-image o e)
-
 pasted-after : (x l : List ℕ) (a : ℕ) (y : List ℕ) → pasted (x ++ l) (length x + a) y ≡ x ++ pasted l a y
 unfolding pasted
 pasted-after [] l a y = rw zero-add
@@ -211,12 +161,6 @@ pasted-after (b ∷ x) l a y =
     let e : suc (length x) + a ≡ suc (length x + a) = omega arith in
     let f : suc (length x + a) + length y ≡ suc (length x + a + length y) = omega arith in
     rw (e, f) (ap (λ (z : List ℕ). b ∷ z) (pasted-after x l a y))
-
-paste-start : (x y l : List ℕ) → length x ≡ BOOK → length y ≡ BOOK → pasted (x ++ l) (0 * BOOK) y ≡ y ++ l
-unfolding pasted
-paste-start x y l m n =
-    let e : 0 * BOOK + length y ≡ length x = omega arith in
-    rw e (ap (λ (z : List ℕ). y ++ z) (drop-at x l (length x) refl))
 
 pub image-set : (r : paper.Register) (k : ℕ) (o : Option paper.Book) → k < length r → allFormed r ≡ true → formedO o ≡ true
     → pasted (image r) (k * BOOK) (bookBytes o) ≡ image (set r k o)
@@ -230,29 +174,6 @@ image-set (u ∷ r) (suc k) o h e g =
     ∙ ap (λ (z : List ℕ). bookBytes u ++ z) (image-set r k o (omega arith) (and-right (formedO u) (allFormed r) e) g))
 
 -- ---- ONE STATE, ONE IMAGE
-
-small-zeros : (n : ℕ) → Small (replicate n 0)
-small-zeros zero = small-nil
-small-zeros (suc n) = small-cons 0 (replicate n 0) (omega arith) (small-zeros n)
-
-fit-image : (o : Option paper.Book) → formedO o ≡ true → Fit (bookOf o)
-unfolding bookOf
-fit-image none e = record { opened = omega arith; terms = small-zeros 12; cells = small-zeros 90; kept = omega arith; changes = small-zeros 128 }
-fit-image (some a) e =
-    let g = parts a e in
-    record {
-      opened = omega arith;
-      terms = small-terms (a .terms) (g .ranged);
-      cells = small-cells (a .places) (places-short (a .terms) 0 (a .places) (g .ranged) (g .close));
-      kept = omega (arith, g .few);
-      changes = small-changes KEPT (a .terms) (a .places) (a .kept) (g .ranged) (g .fit);
-    }
-
-book-front : (o : Option paper.Book) (l : List ℕ) → formedO o ≡ true → bookAt (bookBytes o ++ l) 0 ≡ bookOf o
-book-front o l e =
-    let n = length-book o e in
-    subst (λ (q : List ℕ). bookAt q 0 ≡ bookOf o) (paste-start (bookBytes o) (bookBytes o) l n n)
-    (read-back (bookBytes o ++ l) 0 (bookOf o) (sized-image o e) (fit-image o e) (omega arith))
 
 form-of : (r : paper.Register) → allFormed r ≡ true → (formFrom (length r) (image r) ≡ true) × (meantFrom (length r) (image r) ≡ r) × (length (image r) ≡ BOOK * length r)
 unfolding formFrom meantFrom image allFormed
@@ -301,15 +222,6 @@ state-image bs r y e = go (inForm bs) refl e
         (subst (λ (s : paper.Register). image s ≡ bs) q (form-image-is bs y u), subst (λ (s : paper.Register). InForm s) q (form-state bs u))
 
 -- ---- a fresh register
-
-zero-bytes : (n : ℕ) → bytesOf (replicate n 0) ≡ replicate (8 * n) 0
-unfolding bytesOf digits
-zero-bytes zero = refl
-zero-bytes (suc n) = let e : 8 * suc n ≡ suc (suc (suc (suc (suc (suc (suc (suc (8 * n)))))))) = omega arith in rw (e, zero-bytes n)
-
-closed-bytes : bookBytes none ≡ replicate BOOK 0
-unfolding bookOf wordsOf
-closed-bytes = zero-bytes 232
 
 zeros-add : (n m : ℕ) → _≡_ {A = List ℕ} (replicate n 0 ++ replicate m 0) (replicate (n + m) 0)
 zeros-add zero m = rw zero-add

@@ -1,4 +1,3 @@
-pub mod Stored
 pub mod Image
 pub mod Calls
 pub mod Frame

@@ -16,7 +16,8 @@ use Rattle.words.specs.Words.{bytesOf}
 use Rattle.words.specs.Paste.{pasted}
 use Rattle.book.specs.declared.Book.{Book}
 use Rattle.book.specs.Meaning.{bookOf}
-use Rattle.lent.specs.Image.{BOOK, LENGTH, wordsOf, image, bookAt, inForm, stateOf}
+use Rattle.stored.specs.Image.{BOOK, wordsOf, bookAt}
+use Rattle.lent.specs.Image.{LENGTH, image, inForm, stateOf}
 
 -- the answer to a call, and the register's bytes after it
 pub record Out : Type 0 where

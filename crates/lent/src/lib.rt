@@ -1,13 +1,11 @@
 // The lent bytes of a register: its form, one book found, and one put back.
 ghost use mathlib.Core.Path.{_≡_};
-ghost use Prim.Native.Nat.{_+_, _*_, _-_, _≤_, _<_};
+ghost use Prim.Native.Nat.{_*_, _-_, _<_};
 ghost use lib.ListN.{length};
 ghost use Rattle.paper.specs.Procedure.{BOOKS};
 ghost use Rattle.paper.specs.Units.{oneTo};
 ghost use Rattle.paper.specs.Answers.{unless};
-ghost use Rattle.words.specs.Words.{bytesOf};
-ghost use Rattle.words.specs.Paste.{pasted};
-ghost use Rattle.lent.specs.Image.{BOOK, LENGTH, wordsOf, bookAt, inForm};
+ghost use Rattle.lent.specs.Image.{LENGTH, inForm};
 ghost use Rattle.lent.specs.Calls.{pickedOf, foundOf, turnedAway, placedAt};
 use book::Book;
 use book::Step;
@@ -23,40 +21,6 @@ impl Layout {
     pub const REGISTER: usize = 29696;
 }
 
-// The book whose bytes start at a.
-pub fn load(register: &[u8], a: usize) -> Book
-    requires { ⌜ a + BOOK ≤ length (now register) ⌝ }
-    ensures { λ r. ⌜ r ≡ bookAt (now (register .entry)) a ⌝ }
-{
-    let mut terms = [0u64; 12];
-    let mut cells = [0u64; 90];
-    let mut changes = [0u64; 128];
-    let opened = words::word_at(register, a);
-    words::load_at(register, a + 8, &mut terms);
-    words::load_at(register, a + 104, &mut cells);
-    let kept = words::word_at(register, a + 824);
-    words::load_at(register, a + 832, &mut changes);
-    Book {
-        opened,
-        terms,
-        cells,
-        kept,
-        changes,
-    }
-}
-
-// The bytes of b, in the place of those from a on.
-fn store(register: &mut [u8], a: usize, b: Book)
-    requires { ⌜ a + BOOK ≤ length (now register) ⌝ }
-    ensures { λ _. ⌜ now (register .exit) ≡ pasted (now (register .entry)) a (bytesOf (wordsOf b)) ⌝ }
-{
-    words::paste_word(register, a, b.opened);
-    words::store_at(&b.terms, register, a + 8);
-    words::store_at(&b.cells, register, a + 104);
-    words::paste_word(register, a + 824, b.kept);
-    words::store_at(&b.changes, register, a + 832);
-}
-
 // Whether bytes are a register in form: the whole check, in every call.
 pub fn formed(register: &[u8]) -> bool
     ensures { λ r. ⌜ r ≡ inForm (now (register .entry)) ⌝ }
@@ -66,9 +30,7 @@ pub fn formed(register: &[u8]) -> bool
     }
     let mut k: usize = 0;
     while k < Procedure::BOOKS {
-        // its words as they stand: `book::in_form` would have them copied
-        let b = load(register, k * Layout::BOOK);
-        if form::in_form(b.opened, &b.terms, &b.cells, b.kept, &b.changes) {
+        if stored::in_form(register, k * Layout::BOOK) {
             k += 1;
         } else {
             return false;
@@ -97,7 +59,7 @@ pub fn picked(register: &[u8], book: u64) -> Book
     }
     if is_book(book) {
         let a = ((book - 1) as usize) * Layout::BOOK;
-        return load(register, a);
+        return stored::load(register, a);
     }
     book::closed()
 }
@@ -136,6 +98,6 @@ pub fn put_back(register: &mut [u8], book: u64, s: Step) -> u64
     if refusal != 0 {
         return refusal;
     }
-    store(register, ((book - 1) as usize) * Layout::BOOK, s.book);
+    stored::store(register, ((book - 1) as usize) * Layout::BOOK, s.book);
     0
 }

@@ -18,7 +18,8 @@ use Rattle.book.specs.declared.Book.{Book}
 use Rattle.book.specs.Meaning.{openOf, meant}
 use Rattle.book.proofs.Meaning.{meant-closed, meant-open}
 use Rattle.evaluation.proofs.Asked.{list-asked}
-use Rattle.lent.specs.Image.{BOOK, bookAt, meantFrom}
+use Rattle.stored.specs.Image.{BOOK, bookAt}
+use Rattle.lent.specs.Image.{meantFrom}
 use Rattle.lent.proofs.Image.{book-at}
 
 -- the first k books' numbers on the list

@@ -9,7 +9,8 @@ ghost use Rattle.paper.specs.Procedure.{BOOKS};
 ghost use Rattle.paper.specs.Books.{sight, sights};
 ghost use Rattle.paper.specs.TurnedAway.{onList, passing};
 ghost use Rattle.book.specs.Meaning.{meant};
-ghost use Rattle.lent.specs.Image.{BOOK, bookAt, meantFrom, inForm};
+ghost use Rattle.stored.specs.Image.{BOOK, bookAt};
+ghost use Rattle.lent.specs.Image.{meantFrom, inForm};
 use lent::Layout;
 use procedure::Procedure;
 
@@ -18,7 +19,7 @@ fn on_list(register: &[u8], k: usize) -> bool
     requires { ⌜ (inForm (now register) ≡ true) × (k < BOOKS) ⌝ }
     ensures { λ r. ⌜ r ≡ onList (Option·map sight (meant (bookAt (now (register .entry)) (k * BOOK)))) ⌝ }
 {
-    let b = lent::load(register, k * Layout::BOOK);
+    let b = stored::load(register, k * Layout::BOOK);
     let opened = b.opened;
     let terms = b.terms;
     let cells = b.cells;

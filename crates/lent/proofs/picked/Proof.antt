@@ -11,7 +11,7 @@ use Rattle.lent.proofs.picked.Reads as reads
 use Rattle.lent.proofs.picked.Lts as lts
 use Rattle.book.proofs.closed.Reads as closed-reads
 use Rattle.lent.proofs.is_book.Reads as is-book-reads
-use Rattle.lent.proofs.load.Reads as load-reads
+use Rattle.stored.proofs.load.Reads as load-reads
 
 closed-requires : tie.Need-closed-requires
 closed-requires c κs = search needs

@@ -5,7 +5,7 @@ use Rattle.lent.proofs.put_back.Statement.{statement}
 use Rattle.lent.proofs.put_back.Tie as tie
 use Rattle.lent.proofs.put_back.Reads as reads
 use Rattle.lent.proofs.put_back.Lts as lts
-use Rattle.lent.proofs.store.Reads as store-reads
+use Rattle.stored.proofs.store.Reads as store-reads
 use Rattle.lent.proofs.turned_away.Reads as turned-away-reads
 
 turned-away-requires : tie.Need-turned-away-requires

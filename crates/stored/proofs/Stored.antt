@@ -1,17 +1,17 @@
 -- A book in a row of bytes: stored, and read back.
 -- Assumes nothing.
 use mathlib.Core.Path.{_≡_, refl, sym, ap, _∙_}
-use mathlib.Core.List.{List, [], _∷_, _++_, append-assoc}
+use mathlib.Core.List.{List, _∷_, _++_, append-assoc, append-nil}
 use Prim.Native.Nat.{ℕ, _+_, _*_, _^_, _≤_, _<_}
 use native.Mathlib.Omega.{arith}
 use lib.ListN.{length, take, drop, getD, length-append}
 use Rattle.words.specs.Words.{le, digits, words, bytesOf}
 use Rattle.words.specs.Paste.{pasted}
 use Rattle.words.proofs.Words.{length-digits, length-bytesOf, bytesOf-append}
-use Rattle.words.proofs.Paste.{pasted-then, one-word, drop-pasted, next-drop, words-front, le-front}
+use Rattle.words.proofs.Paste.{pasted-then, drop-pasted, next-drop, words-front, le-front}
 use Rattle.book.specs.declared.Book.{Book}
 use Rattle.book.proofs.Meaning.{Sized}
-use Rattle.lent.specs.Image.{BOOK, wordsOf, bookAt}
+use Rattle.stored.specs.Image.{BOOK, wordsOf, bookAt}
 
 -- ---- what the code loads and stores
 
@@ -25,34 +25,34 @@ pub book-eq : (bs : List ℕ) (a : ℕ) (o : ℕ) (t ce : List ℕ) (k : ℕ) (c
 unfolding bookAt
 book-eq bs a o t ce k ch e₀ e₁ e₂ e₃ e₄ = cc
 
-pub book-bytes : (b : Book)
-    → digits 8 (b .opened) ++ bytesOf (b .terms) ++ bytesOf (b .cells) ++ digits 8 (b .kept) ++ bytesOf (b .changes) ≡ bytesOf (wordsOf b)
-unfolding wordsOf
-book-bytes b = simp (bytesOf-append, one-word)
+pub both : (r r₁ r₂ : List ℕ) (a w : ℕ) (ws : List ℕ) → a + 8 + 8 * length ws ≤ length r
+    → r₁ ≡ pasted r a (digits 8 w)
+    → r₂ ≡ pasted r₁ (a + 8) (bytesOf ws)
+    → r₂ ≡ pasted r a (bytesOf (w ∷ ws))
+unfolding bytesOf
+both r r₁ r₂ a w ws h e₁ e₂ =
+    let n = length-digits 8 w in
+    let m = length-bytesOf ws in
+    (rw e₁ at e₂) ∙ pasted-then r a (digits 8 w) (a + 8) (bytesOf ws) (omega arith) (omega arith)
 
-pub stored : (r r₁ r₂ r₃ r₄ r₅ : List ℕ) (a : ℕ) (b : Book) → Sized b → a + BOOK ≤ length r
-    → r₁ ≡ pasted r a (digits 8 (b .opened))
-    → r₂ ≡ pasted r₁ (a + 8) (bytesOf (b .terms))
-    → r₃ ≡ pasted r₂ (a + 104) (bytesOf (b .cells))
-    → r₄ ≡ pasted r₃ (a + 824) (digits 8 (b .kept))
-    → r₅ ≡ pasted r₄ (a + 832) (bytesOf (b .changes))
-    → r₅ ≡ pasted r a (bytesOf (wordsOf b))
-stored r r₁ r₂ r₃ r₄ r₅ a b s h e₁ e₂ e₃ e₄ e₅ =
-    let n₀ = length-digits 8 (b .opened) in
-    let n₁ = length-bytesOf (b .terms) in
+book-bytes : (b : Book) → bytesOf (b .opened ∷ b .terms) ++ bytesOf (b .cells) ++ bytesOf (b .kept ∷ b .changes) ≡ bytesOf (wordsOf b)
+unfolding wordsOf bytesOf
+book-bytes b = simp (bytesOf-append, append-assoc, append-nil)
+
+pub stored : (r r₁ r₂ r₃ : List ℕ) (a : ℕ) (b : Book) → Sized b → a + BOOK ≤ length r
+    → r₁ ≡ pasted r a (bytesOf (b .opened ∷ b .terms))
+    → r₂ ≡ pasted r₁ (a + 104) (bytesOf (b .cells))
+    → r₃ ≡ pasted r₂ (a + 824) (bytesOf (b .kept ∷ b .changes))
+    → r₃ ≡ pasted r a (bytesOf (wordsOf b))
+stored r r₁ r₂ r₃ a b s h e₁ e₂ e₃ =
+    let n₁ = length-bytesOf (b .opened ∷ b .terms) in
     let n₂ = length-bytesOf (b .cells) in
-    let n₃ = length-digits 8 (b .kept) in
-    let n₄ = length-bytesOf (b .changes) in
-    let x₁ = digits 8 (b .opened) ++ bytesOf (b .terms) in
-    let l₁ = length-append (digits 8 (b .opened)) (bytesOf (b .terms)) in
+    let n₃ = length-bytesOf (b .kept ∷ b .changes) in
+    let x₁ = bytesOf (b .opened ∷ b .terms) in
     let x₂ = x₁ ++ bytesOf (b .cells) in
     let l₂ = length-append x₁ (bytesOf (b .cells)) in
-    let x₃ = x₂ ++ digits 8 (b .kept) in
-    let l₃ = length-append x₂ (digits 8 (b .kept)) in
-    let f₂ : r₂ ≡ pasted r a x₁ = (rw e₁ at e₂) ∙ pasted-then r a _ (a + 8) _ (omega arith) (omega arith) in
-    let f₃ : r₃ ≡ pasted r a x₂ = (rw f₂ at e₃) ∙ pasted-then r a _ (a + 104) _ (omega arith) (omega arith) in
-    let f₄ : r₄ ≡ pasted r a x₃ = (rw f₃ at e₄) ∙ pasted-then r a _ (a + 824) _ (omega arith) (omega arith) in
-    (rw f₄ at e₅) ∙ pasted-then r a _ (a + 832) _ (omega arith) (omega arith) ∙ ap (pasted r a) (book-bytes b)
+    let f₂ : r₂ ≡ pasted r a x₂ = (rw e₁ at e₂) ∙ pasted-then r a _ (a + 104) _ (omega arith) (omega arith) in
+    (rw f₂ at e₃) ∙ pasted-then r a _ (a + 824) _ (omega arith) (omega arith) ∙ ap (pasted r a) (book-bytes b)
 
 -- each word of a book is a word
 pub record Fit (b : Book) : Type 0 where
@@ -65,6 +65,7 @@ pub record Fit (b : Book) : Type 0 where
 -- what is stored is read back
 pub read-back : (r : List ℕ) (a : ℕ) (b : Book) → Sized b → Fit b → a ≤ length r
     → bookAt (pasted r a (bytesOf (wordsOf b))) a ≡ b
+unfolding bytesOf
 read-back r a b s f h =
     let x = bytesOf (wordsOf b) in
     let q = pasted r a x in

@@ -1,9 +1,9 @@
-use Rattle.lent.proofs.Stored.{book-eq}
+use Rattle.stored.proofs.Stored.{book-eq}
 use borrow.Author.Needs.{needs}
-use Rattle.lent.proofs.load.Statement.{statement}
-use Rattle.lent.proofs.load.Tie as tie
-use Rattle.lent.proofs.load.Reads as reads
-use Rattle.lent.proofs.load.Lts as lts
+use Rattle.stored.proofs.load.Statement.{statement}
+use Rattle.stored.proofs.load.Tie as tie
+use Rattle.stored.proofs.load.Reads as reads
+use Rattle.stored.proofs.load.Lts as lts
 use Rattle.words.proofs.load_at.Reads as load-at-reads
 use Rattle.words.proofs.word_at.Reads as word-at-reads
 

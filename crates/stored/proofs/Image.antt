@@ -1,0 +1,114 @@
+-- A book and its bytes go together.
+-- Assumes nothing.
+use Prim.Native.Nat.{ℕ, zero, suc, _+_, _*_, _≤_, _<_}
+use native.Mathlib.Omega.{arith}
+use mathlib.Core.Path.{_≡_, refl, sym, ap, _∙_, subst}
+use mathlib.Core.Bool.{true}
+use mathlib.Core.Option.{Option, none, some}
+use mathlib.Core.List.{List, [], _∷_, _++_, append-assoc}
+use lib.ListN.{length, getD, take, drop, replicate, length-append}
+use lib.Seq.{drop-drop, drop-at, length-take-le}
+use Rattle.paper.specs.Procedure.{KEPT}
+use Rattle.paper.specs.Books as paper
+use Rattle.paper.specs.Form.{formedO}
+use Rattle.paper.proofs.Form.{parts}
+use Rattle.words.specs.Words.{le, words, digits, bytesOf}
+use Rattle.words.specs.Paste.{pasted}
+use Rattle.words.proofs.Words.{length-words, length-bytesOf, bytesOf-words, words-add}
+use Rattle.words.proofs.Paste.{words-take}
+use Rattle.image.proofs.Bounds.{Small, small-nil, small-cons, small-terms, small-cells, small-changes, places-short}
+use Rattle.book.specs.declared.Book.{Book}
+use Rattle.book.specs.Meaning.{bookOf}
+use Rattle.book.proofs.Meaning.{Sized, sized-image}
+use Rattle.stored.specs.Image.{BOOK, wordsOf, bookBytes, bookAt}
+use Rattle.stored.proofs.Stored.{Fit, read-back}
+
+abbrev pub Bytes : List ℕ → Type 0
+Bytes bs = (i : ℕ) → getD bs i 0 < 256
+
+pub sized-at : (bs : List ℕ) (a : ℕ) → Sized (bookAt bs a)
+unfolding bookAt
+sized-at bs a =
+    record { terms-12 = length-words 12 (drop (a + 8) bs); cells-90 = length-words 90 (drop (a + 104) bs); changes-128 = length-words 128 (drop (a + 832) bs) }
+
+pub book-drop : (bs : List ℕ) (a : ℕ) → bookAt (drop a bs) 0 ≡ bookAt bs a
+unfolding bookAt
+book-drop bs a = rw (drop-drop 8 a bs, drop-drop 104 a bs, drop-drop 824 a bs, drop-drop 832 a bs)
+
+-- ---- bytes to book to bytes
+
+one : (l : List ℕ) → words 1 l ≡ le (take 8 l) ∷ []
+unfolding words
+one l = refl
+
+words-book : (bs : List ℕ) → wordsOf (bookAt bs 0) ≡ words 232 bs
+unfolding wordsOf bookAt
+words-book bs =
+    let d₁ : words 231 (drop 8 bs) ≡ words 12 (drop 8 bs) ++ words 219 (drop 104 bs) = words-add 12 219 (drop 8 bs) ∙ ap (λ (l : List ℕ). words 12 (drop 8 bs) ++ words 219 l) (drop-drop 96 8 bs) in
+    let d₂ : words 219 (drop 104 bs) ≡ words 90 (drop 104 bs) ++ words 129 (drop 824 bs) = words-add 90 129 (drop 104 bs) ∙ ap (λ (l : List ℕ). words 90 (drop 104 bs) ++ words 129 l) (drop-drop 720 104 bs) in
+    let d₃ : words 129 (drop 824 bs) ≡ words 1 (drop 824 bs) ++ words 128 (drop 832 bs) = words-add 1 128 (drop 824 bs) ∙ ap (λ (l : List ℕ). words 1 (drop 824 bs) ++ words 128 l) (drop-drop 8 824 bs) in
+    sym (words-add 1 231 bs ∙ rw (d₁, d₂, d₃, one bs, one (drop 824 bs)) (simp append-assoc))
+
+bytes-take : (n : ℕ) (l : List ℕ) → Bytes l → Bytes (take n l)
+bytes-take zero l h i = omega arith
+bytes-take (suc n) [] h i = omega arith
+bytes-take (suc n) (b ∷ l) h zero = h 0
+bytes-take (suc n) (b ∷ l) h (suc i) = bytes-take n l (λ j. h (suc j)) i
+
+pub bytes-book : (bs : List ℕ) → BOOK ≤ length bs → Bytes bs → bytesOf (wordsOf (bookAt bs 0)) ≡ take BOOK bs
+bytes-book bs h y =
+    let l : length (take BOOK bs) ≡ 8 * 232 = length-take-le BOOK bs h in
+    ap bytesOf (words-book bs ∙ sym (words-take 232 bs)) ∙ bytesOf-words 232 (take BOOK bs) l (bytes-take BOOK bs y)
+
+-- ---- book to bytes to book
+
+length-image : (b : Book) → Sized b → length (bytesOf (wordsOf b)) ≡ BOOK
+unfolding wordsOf
+length-image b s =
+    let a = s .terms-12 in
+    let d = s .cells-90 in
+    let e = s .changes-128 in
+    rw length-bytesOf (simp length-append (omega arith))
+
+pub length-book : (o : Option paper.Book) → formedO o ≡ true → length (bookBytes o) ≡ BOOK
+length-book o e = length-image (bookOf o) (sized-image o e)
+
+pub paste-start : (x y l : List ℕ) → length x ≡ BOOK → length y ≡ BOOK → pasted (x ++ l) (0 * BOOK) y ≡ y ++ l
+unfolding pasted
+paste-start x y l m n =
+    let e : 0 * BOOK + length y ≡ length x = omega arith in
+    rw e (ap (λ (z : List ℕ). y ++ z) (drop-at x l (length x) refl))
+
+small-zeros : (n : ℕ) → Small (replicate n 0)
+small-zeros zero = small-nil
+small-zeros (suc n) = small-cons 0 (replicate n 0) (omega arith) (small-zeros n)
+
+fit-image : (o : Option paper.Book) → formedO o ≡ true → Fit (bookOf o)
+unfolding bookOf
+fit-image none e = record { opened = omega arith; terms = small-zeros 12; cells = small-zeros 90; kept = omega arith; changes = small-zeros 128 }
+fit-image (some a) e =
+    let g = parts a e in
+    record {
+      opened = omega arith;
+      terms = small-terms (a .terms) (g .ranged);
+      cells = small-cells (a .places) (places-short (a .terms) 0 (a .places) (g .ranged) (g .close));
+      kept = omega (arith, g .few);
+      changes = small-changes KEPT (a .terms) (a .places) (a .kept) (g .ranged) (g .fit);
+    }
+
+pub book-front : (o : Option paper.Book) (l : List ℕ) → formedO o ≡ true → bookAt (bookBytes o ++ l) 0 ≡ bookOf o
+book-front o l e =
+    let n = length-book o e in
+    subst (λ (q : List ℕ). bookAt q 0 ≡ bookOf o) (paste-start (bookBytes o) (bookBytes o) l n n)
+    (read-back (bookBytes o ++ l) 0 (bookOf o) (sized-image o e) (fit-image o e) (omega arith))
+
+-- ---- a closed book
+
+zero-bytes : (n : ℕ) → bytesOf (replicate n 0) ≡ replicate (8 * n) 0
+unfolding bytesOf digits
+zero-bytes zero = refl
+zero-bytes (suc n) = let e : 8 * suc n ≡ suc (suc (suc (suc (suc (suc (suc (suc (8 * n)))))))) = omega arith in rw (e, zero-bytes n)
+
+pub closed-bytes : bookBytes none ≡ replicate BOOK 0
+unfolding bookOf wordsOf
+closed-bytes = zero-bytes 232

@@ -1,0 +1,23 @@
+use mathlib.Core.Path.{ap, _∙_}
+use Rattle.book.specs.Meaning.{bookForm}
+use borrow.Author.Needs.{needs}
+use Rattle.stored.proofs.in_form.Statement.{statement}
+use Rattle.stored.proofs.in_form.Tie as tie
+use Rattle.stored.proofs.in_form.Reads as reads
+use Rattle.stored.proofs.in_form.Lts as lts
+use Rattle.form.proofs.in_form.Reads as in-form-reads
+use Rattle.stored.proofs.load.Reads as load-reads
+
+load-requires : tie.Need-load-requires
+load-requires c κs = search needs
+
+in-form-requires : tie.Need-in-form-requires
+in-form-requires c κs = search needs
+
+returns : tie.Need-returns
+unfolding bookForm
+returns c =
+    c .in-form .ensures ∙ ap bookForm (c .before .before .before .before .before .load .ensures)
+
+pub in-form-spec : {M : Type 1} → statement M
+in-form-spec = tie.close (tie.spec load-requires in-form-requires returns)

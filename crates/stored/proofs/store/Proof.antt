@@ -1,0 +1,49 @@
+use native.Mathlib.Omega.{arith}
+use Rattle.stored.proofs.Stored.{stored}
+use borrow.Author.Needs.{needs}
+use Rattle.stored.proofs.store.Statement.{statement}
+use Rattle.stored.proofs.store.Tie as tie
+use Rattle.stored.proofs.store.Reads as reads
+use Rattle.stored.proofs.store.Lts as lts
+use Rattle.stored.proofs.store_both.Reads as store-both-reads
+use Rattle.words.proofs.store_at.Reads as store-at-reads
+
+store-both-requires : tie.Need-store-both-requires
+store-both-requires c κs = search needs
+
+add-store-at : tie.Need-add-store-at
+add-store-at c = search needs
+
+store-at-requires : tie.Need-store-at-requires
+store-at-requires c κs = search needs
+
+add-store-both : tie.Need-add-store-both
+add-store-both c = search needs
+
+store-both-requires-2 : tie.Need-store-both-requires-2
+store-both-requires-2 c κs = search needs
+
+same-length : tie.Need-same-length
+same-length c = search needs
+
+returns : tie.Need-returns
+returns c =
+    let s = c .before .before .before .before .before .before .before .before .before .before .before .before .before .before .before .before .before .before .before .before .before .before in
+    stored (s .args .register .now) _ _ _ (s .args .a) (s .args .t3)
+    (record { terms-12 = omega (arith, s); cells-90 = omega (arith, s); changes-128 = omega (arith, s) })
+    (s .pre)
+    (c .before .before .before .before .before .before .before .before .before .before .before .before .before .before .before .before .store-both .ensures)
+    (c .before .before .before .before .before .before .before .before .before .store-at .ensures)
+    (c .before .before .store-both2 .ensures)
+
+pub store-spec : {M : Type 1} → statement M
+store-spec =
+    tie.close
+    (tie.spec
+    store-both-requires
+    add-store-at
+    store-at-requires
+    add-store-both
+    store-both-requires-2
+    same-length
+    returns)

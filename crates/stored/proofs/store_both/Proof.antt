@@ -1,0 +1,29 @@
+use Rattle.stored.proofs.Stored.{both}
+use borrow.Author.Needs.{needs}
+use Rattle.stored.proofs.store_both.Statement.{statement}
+use Rattle.stored.proofs.store_both.Tie as tie
+use Rattle.stored.proofs.store_both.Reads as reads
+use Rattle.stored.proofs.store_both.Lts as lts
+use Rattle.words.proofs.paste_word.Reads as paste-word-reads
+use Rattle.words.proofs.store_at.Reads as store-at-reads
+
+paste-word-requires : tie.Need-paste-word-requires
+paste-word-requires c κs = search needs
+
+add-store-at : tie.Need-add-store-at
+add-store-at c = search needs
+
+store-at-requires : tie.Need-store-at-requires
+store-at-requires c κs = search needs
+
+same-length : tie.Need-same-length
+same-length c = search needs
+
+returns : tie.Need-returns
+returns c =
+    let s = c .before .before .before .before .before .before .before .before .before .before in
+    both (s .args .bytes .now) _ _ (s .args .at) (s .args .w) (s .args .from .now) (s .pre) (c .before .before .before .before .before .before .paste-word .ensures) (c .before .before .store-at .ensures)
+
+pub store-both-spec : {M : Type 1} → statement M
+store-both-spec =
+    tie.close (tie.spec paste-word-requires add-store-at store-at-requires same-length returns)
