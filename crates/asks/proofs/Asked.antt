@@ -14,9 +14,9 @@ use Rattle.paper.specs.Answers.{Answer, answered, says, given, beside, suspectI
 use Rattle.paper.specs.Alone.{askedAlone}
 use Rattle.book.specs.declared.Book.{Book}
 use Rattle.book.specs.Meaning.{seen}
-use Rattle.book.specs.Steps.{lengthsOf, countOf}
-use Rattle.book.specs.declared.Lengths.{Lengths}
-use Rattle.book.specs.declared.Count.{Count}
+use Rattle.readings.specs.Answers.{lengthsOf, countOf}
+use Rattle.readings.specs.declared.Lengths.{Lengths}
+use Rattle.readings.specs.declared.Count.{Count}
 use Rattle.doubles.specs.declared.Evaluated.{Evaluated}
 use Rattle.evaluation.specs.Evaluating.{judgementOf}
 use Rattle.doubles.specs.Doubles.{doubled}

@@ -3,16 +3,16 @@
 ghost use mathlib.Core.Path.{_≡_};
 ghost use Rattle.paper.specs.Calls.{ask, read, changes, residual, evaluate, compare};
 ghost use Rattle.paper.specs.Alone.{evaluatedFile};
-ghost use Rattle.book.specs.Steps.{lengthsOf, countOf};
+ghost use Rattle.readings.specs.Answers.{lengthsOf, countOf};
 ghost use Rattle.fieldfile.specs.Reader.{readOf};
 ghost use Rattle.lent.specs.Calls.{called};
 ghost use Rattle.asks.specs.Answers.{plainOf, evaluationOf, plainlyOf, comparisonOf};
-use book::Count;
-use book::Lengths;
 use comparison::Compared;
 use doubles::Evaluated;
 use paper::Mark;
 use paper::Sheet;
+use readings::Count;
+use readings::Lengths;
 
 // ---- a reading, a count, a residual
 
@@ -21,7 +21,7 @@ use paper::Sheet;
 pub extern "C" fn rtk_read(register: &[u8], book: u64, series: u64, set: u64, point: u64) -> Lengths
     ensures { λ r. ⌜ r ≡ lengthsOf (called (ask (read book (record { series = series; set = set; point = point }))) (now (register .entry)) .answer) ⌝ }
 {
-    let mut reading = lent::found(register, book).read(series, set, point);
+    let mut reading = readings::read(lent::found(register, book), series, set, point);
     reading.refusal = lent::turned_away(book, reading.refusal);
     reading
 }
@@ -31,7 +31,7 @@ pub extern "C" fn rtk_read(register: &[u8], book: u64, series: u64, set: u64, po
 pub extern "C" fn rtk_changes(register: &[u8], book: u64) -> Count
     ensures { λ r. ⌜ r ≡ countOf (called (ask (changes book)) (now (register .entry)) .answer) ⌝ }
 {
-    let mut changes = lent::found(register, book).count();
+    let mut changes = readings::changes(lent::found(register, book));
     changes.refusal = lent::turned_away(book, changes.refusal);
     changes
 }

@@ -2,22 +2,20 @@
 -- Assumes nothing.
 use Prim.Native.Nat.{ℕ, zero, suc, _-_, _<_}
 use native.Mathlib.Omega.{arith}
-use mathlib.Core.Path.{_≡_, refl, sym, ap, _∙_, subst}
-use mathlib.Core.Bool.{Bool, true, false}
-use mathlib.Core.Option.{Option, none, some, Option·map}
-use mathlib.Core.List.{List, [], _∷_}
-use lib.ListN.{length, getD, set, take}
+use mathlib.Core.Path.{_≡_, refl, _∙_}
+use mathlib.Core.Bool.{true}
+use mathlib.Core.Option.{none, Option·map}
+use lib.ListN.{length, getD, take}
 use lib.Seq.{set-set, set-getD, take-all}
 use Rattle.paper.specs.Procedure.{KEPT}
 use Rattle.paper.specs.Books as paper
 use Rattle.paper.specs.Calls.{Act, effect, affected}
 use Rattle.paper.specs.TurnedAway.{lowest, rules}
 use Rattle.paper.specs.Answers.{unless}
-use Rattle.paper.specs.Form.{formedO}
 use Rattle.paper.specs.Alone.{refusedAlone, next}
 use Rattle.paper.proofs.History.{formed-next}
 use Rattle.book.specs.declared.Book.{Book}
-use Rattle.book.specs.Meaning.{bookOf, meant, bookForm, seen}
+use Rattle.book.specs.Meaning.{bookOf, meant, bookForm}
 use Rattle.book.specs.Steps.{stepOf}
 use Rattle.book.proofs.Meaning.{form-formed, form-image, seen-in}
 

@@ -1,4 +1,3 @@
 pub mod Meaning
 pub mod Steps
-pub mod Asks
 pub mod Kept

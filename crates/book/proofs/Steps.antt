@@ -4,10 +4,10 @@ use Prim.Native.Nat.{ℕ, zero, suc, _+_, _*_, _-_, _≤_, _<_, min}
 use native.Mathlib.Omega.{arith}
 use native.Mathlib.Nat.{mul-comm}
 use mathlib.Core.Path.{_≡_, refl, sym, ap, _∙_, subst}
-use mathlib.Core.Bool.{Bool, true, false, cond, not, _&&_}
+use mathlib.Core.Bool.{Bool, true, false, cond, not}
 use mathlib.Core.Option.{Option, none, some, Option·map}
-use mathlib.Core.List.{List, [], _∷_, _++_}
-use lib.ListN.{length, getD, set, take, drop, length-take, length-drop}
+use mathlib.Core.List.{List, [], _∷_}
+use lib.ListN.{length, getD, drop, length-take, length-drop}
 use lib.Seq.{drop-drop}
 use lib.Dec.{eqb, ltb}
 use lib.IntN.{ℤ}
@@ -23,7 +23,7 @@ use Rattle.paper.proofs.Tests.{below, told-point}
 use Rattle.paper.proofs.Form.{parts, AllFit}
 use Rattle.words.specs.Paste.{pasted}
 use Rattle.image.specs.Lengths.{triple, termsOf, termWordsOr, wordOr}
-use Rattle.image.specs.Places.{spotOf, spotAt, placesOf, cellsOf, spotWords}
+use Rattle.image.specs.Places.{spotAt, placesOf, cellsOf, spotWords}
 use Rattle.image.specs.Changes.{change, entries, changeWords, changesOf, zeros}
 use Rattle.image.proofs.Lengths.{words-terms}
 use Rattle.image.proofs.Places.{place-at, cells-set, cells-spots, words-spot, length-spots}
@@ -32,8 +32,9 @@ use Rattle.image.proofs.Bounds.{near-words, near-short, words-of, range-given, 
 use Rattle.changes.specs.Kept.{pushed, popped, more}
 use Rattle.book.specs.declared.Book.{Book}
 use Rattle.book.specs.declared.Step.{Step}
-use Rattle.book.specs.Meaning.{bookOf, openOf, meant, bookForm, seen}
-use Rattle.book.specs.Steps.{step, stepOf, aim, aimOf, changedOf, undoneOf, placedOf, begunOf}
+use Rattle.book.specs.declared.Aim.{Aim}
+use Rattle.book.specs.Meaning.{bookOf, openOf, meant, bookForm}
+use Rattle.book.specs.Steps.{step, stepOf, aim, aimOf, soughtOf, changedOf, undoneOf, putOf, placedOf, begunOf}
 use Rattle.book.proofs.Meaning.{Sized, book-parts, Sound, form-sound, meant-closed, meant-open, form-book, seen-in, seen-out}
 
 -- what the calls see of it
@@ -168,10 +169,10 @@ module _ (b : Book) (s : Sized b) (p : Place) (q : ℕ) (o : On b p q) where
       (sym (changes-push 31 (change q (spotAt (b .cells) (q * 3))) (entries (b .kept) (b .changes)) ∙ rw (words-before, kept-words b s sound))))
 
   -- ---- an act that puts a reading where it may stand: 8, or the change
-  pub placed-is : (a : Act) (x y h : ℤ) → effect a ≡ makes (change (number p) (some (record { x = x; y = y; h = h })))
+  placed-is : (a : Act) (x y h : ℤ) → effect a ≡ makes (change (number p) (some (record { x = x; y = y; h = h })))
       → lowest (rules a (sightO b)) ≡ lowest (8 when far p (record { x = x; y = y; h = h }) (sightO b) ∷ [])
-      → placedOf b q (wordOr x) (wordOr y) (wordOr h) ≡ stepOf a b
-  unfolding placedOf lowest
+      → putOf b q (wordOr x) (wordOr y) (wordOr h) ≡ stepOf a b
+  unfolding lowest
   placed-is a x y h ef r = go (near (termsOf (b .terms)) (pointOf q) (triple (wordOr x) (wordOr y) (wordOr h))) refl
     where
       v : Triple
@@ -188,31 +189,120 @@ module _ (b : Book) (s : Sized b) (p : Place) (q : ℕ) (o : On b p q) where
           let w = words-of x y h (near-short (termsOf (b .terms)) (pointOf q) v in-range close) in
           step-done b a (changedOf b q (wordOr x ∷ wordOr y ∷ wordOr h ∷ [])) (o .form) (r ∙ rw (far-is x y h, e)) (rw (w, ef) (change-is (some v)))
 
-  -- ---- enter, correct, withdraw: the place is filled, or empty, or may be changed
+-- ---- the ways out of `placed`
 
-  pub entered : (x y h : ℤ) → isEmpty (spotAt (b .cells) (q * 3)) ≡ true → placedOf b q (wordOr x) (wordOr y) (wordOr h) ≡ stepOf (enter p (record { x = x; y = y; h = h })) b
-  unfolding rules effect lowest
-  entered x y h e = placed-is (enter p (record { x = x; y = y; h = h })) x y h refl (on-rules (enter p (record { x = x; y = y; h = h })) _ refl ∙ rw (empty-is, e))
+module _ (b : Book) (a : Aim) where
+  pub placed-refused : (x y h : ℕ) → (a .refusal ≡ 0 → ⊥) → step (a .refusal) b ≡ placedOf b a x y h
+  unfolding placedOf
+  placed-refused x y h n = rw (ne-eqb (a .refusal) 0 n)
 
-  pub enter-filled : (v : Triple) → isEmpty (spotAt (b .cells) (q * 3)) ≡ false → step 6 b ≡ stepOf (enter p v) b
-  unfolding rules lowest
-  enter-filled v e = step-refused b (enter p v) 5 s (o .form) (on-rules (enter p v) _ refl ∙ rw (empty-is, e))
+  module _ (x y h x′ y′ h′ : ℕ) (r : Bool) (z : a .refusal ≡ 0) (ex : x ≡ x′) (ey : y ≡ y′) (eh : h ≡ h′) (e : r ≡ near (termsOf (b .terms)) (pointOf (a .place)) (triple x y h)) where
+    pub placed-near : (b′ : Book) → r ≡ true → b′ ≡ changedOf b (a .place) (x ∷ y ∷ h ∷ []) → step 0 b′ ≡ placedOf b a x′ y′ h′
+    unfolding placedOf
+    placed-near b′ t u = rw (← ex, ← ey, ← eh, eq-eqb (a .refusal) 0 z, ← e, t, u)
 
-  pub corrected : (x y h : ℤ) → isEmpty (spotAt (b .cells) (q * 3)) ≡ false → placedOf b q (wordOr x) (wordOr y) (wordOr h) ≡ stepOf (correct p (record { x = x; y = y; h = h })) b
-  unfolding rules effect lowest
-  corrected x y h e = placed-is (correct p (record { x = x; y = y; h = h })) x y h refl (on-rules (correct p (record { x = x; y = y; h = h })) _ refl ∙ rw (empty-is, e))
+    pub placed-far : r ≡ false → step 8 b ≡ placedOf b a x′ y′ h′
+    unfolding placedOf
+    placed-far t = rw (← ex, ← ey, ← eh, eq-eqb (a .refusal) 0 z, ← e, t)
 
-  pub correct-empty : (v : Triple) → isEmpty (spotAt (b .cells) (q * 3)) ≡ true → step 7 b ≡ stepOf (correct p v) b
-  unfolding rules lowest
-  correct-empty v e = step-refused b (correct p v) 6 s (o .form) (on-rules (correct p v) _ refl ∙ rw (empty-is, e))
+-- ---- a call that is refused by e at an empty place and by f at a filled one
 
-  pub withdrawn : isEmpty (spotAt (b .cells) (q * 3)) ≡ false → step 0 (changedOf b q (0 ∷ 0 ∷ 0 ∷ [])) ≡ stepOf (withdraw p) b
+module _ (b : Book) (p : Place) (e f : ℕ) where
+  pub sought-before : (a : Aim) → a ≡ aimOf b p → (a .refusal ≡ 0 → ⊥) → a ≡ soughtOf b p e f
+  unfolding soughtOf
+  sought-before a u n = rw (← u, ne-eqb (a .refusal) 0 n)
+
+  pub sought-there : (a : Aim) (t : Bool) → a ≡ aimOf b p → a .refusal ≡ 0 → t ≡ isEmpty (spotAt (b .cells) (a .place * 3)) → (i : Bool) → t ≡ i → aim (cond i e f) (a .place) ≡ soughtOf b p e f
+  unfolding soughtOf
+  sought-there a t u z v i w = rw (← u, eq-eqb (a .refusal) 0 z, ← v, w)
+
+  -- where it is not refused it is on a place, and not refused by what stands there
+  pub sought-on : (a : Aim) → a ≡ soughtOf b p e f → a .refusal ≡ 0 → On b p (a .place) × (cond (isEmpty (spotAt (b .cells) (a .place * 3))) e f ≡ 0)
+  unfolding soughtOf
+  sought-on a u z = go (eqb (aimOf b p .refusal) 0) refl u
+    where
+      go : (t : Bool) → eqb (aimOf b p .refusal) 0 ≡ t
+          → a ≡ cond t (aim (cond (isEmpty (spotAt (b .cells) (aimOf b p .place * 3))) e f) (aimOf b p .place)) (aimOf b p)
+          → On b p (a .place) × (cond (isEmpty (spotAt (b .cells) (a .place * 3))) e f ≡ 0)
+      go true w u =
+          let q : a .place ≡ aimOf b p .place = ap (λ (m : Aim). m .place) u in
+          (aim-on b p (a .place) (eqb-true (aimOf b p .refusal) 0 w) q, rw q (sym (ap (λ (m : Aim). m .refusal) u) ∙ z))
+      go false w u = absurd (eqb-false (aimOf b p .refusal) 0 w (sym (ap (λ (m : Aim). m .refusal) u) ∙ z))
+
+  pub sought-small : Sized b → (a : Aim) → a ≡ soughtOf b p e f → a .refusal ≡ 0 → a .place < PLACES
+  sought-small s a u z = place-small b s p (a .place) (sought-on a u z .0)
+
+  -- an act whose rule behind PLACE and CLOSED says the same
+  module _ (s : Sized b) (a : Act) (m : ℕ) (t : Bool) (rest : List Rule) (r : rules a (sightO b) ≡ placed b p (suc m when t ∷ rest)) (k : cond (empty p (sightO b)) e f ≡ cond t (suc m) 0) where
+    sought-refused : (c : Aim) → c ≡ soughtOf b p e f → (c .refusal ≡ 0 → ⊥) → step (c .refusal) b ≡ stepOf a b
+    unfolding soughtOf lowest
+    sought-refused c u z = go (eqb (aimOf b p .refusal) 0) refl (ap (λ (m : Aim). m .refusal) u)
+      where
+        there : (q : ℕ) → On b p q → (n : ℕ) (i : Bool) → t ≡ i → n ≡ cond i (suc m) 0 → (n ≡ 0 → ⊥) → step n b ≡ stepOf a b
+        there q o zero i w v z = absurd (z refl)
+        there q o (suc n) false w v z = absurd (omega (arith, v))
+        there q o (suc n) true w v z = step-refused b a n s (o .form) (on-rules b s p q o a (suc m when t ∷ rest) r ∙ rw w (sym v))
+
+        go : (i : Bool) → eqb (aimOf b p .refusal) 0 ≡ i
+            → c .refusal ≡ cond i (aim (cond (isEmpty (spotAt (b .cells) (aimOf b p .place * 3))) e f) (aimOf b p .place)) (aimOf b p) .refusal
+            → step (c .refusal) b ≡ stepOf a b
+        go false w v = aim-refused b p a (suc m when t ∷ rest) (c .refusal) s r v z
+        go true w v =
+            let o = aim-on b p (aimOf b p .place) (eqb-true (aimOf b p .refusal) 0 w) refl in
+            there (aimOf b p .place) o (c .refusal) t refl (v ∙ ap (λ (i : Bool). cond i e f) (sym (empty-is b s p (aimOf b p .place) o)) ∙ k) z
+
+    sought-rest : (q : ℕ) → On b p q → cond (isEmpty (spotAt (b .cells) (q * 3))) e f ≡ 0 → lowest (rules a (sightO b)) ≡ lowest rest
+    unfolding lowest
+    sought-rest q o z = on-rules b s p q o a (suc m when t ∷ rest) r ∙ go t refl (sym k ∙ ap (λ (i : Bool). cond i e f) (empty-is b s p q o) ∙ z)
+      where
+        go : (i : Bool) → t ≡ i → cond i (suc m) 0 ≡ 0 → lowest (suc m when t ∷ rest) ≡ lowest rest
+        go true w v = absurd (omega (arith, v))
+        go false w v = rw w
+
+    -- a reading put where it goes, whose three words are those of x, y and h
+    placed-step : (c : Aim) (x y h x′ y′ h′ : ℤ) → c ≡ soughtOf b p e f → x′ ≡ x → y′ ≡ y → h′ ≡ h
+        → effect a ≡ makes (change (number p) (some (record { x = x; y = y; h = h })))
+        → rest ≡ 8 when far p (record { x = x; y = y; h = h }) (sightO b) ∷ []
+        → (r : Step) → r ≡ placedOf b c (wordOr x′) (wordOr y′) (wordOr h′)
+        → r ≡ stepOf a b
+    unfolding placedOf
+    placed-step c x y h x′ y′ h′ u ex ey eh ef l r er = er ∙ rw (ex, ey, eh) (go (eqb (c .refusal) 0) refl)
+      where
+        go : (i : Bool) → eqb (c .refusal) 0 ≡ i → cond i (putOf b (c .place) (wordOr x) (wordOr y) (wordOr h)) (step (c .refusal) b) ≡ stepOf a b
+        go false w = sought-refused c u (eqb-false (c .refusal) 0 w)
+        go true w =
+            let o = sought-on c u (eqb-true (c .refusal) 0 w) in
+            placed-is b s p (c .place) (o .0) a x y h ef (sought-rest (c .place) (o .0) (o .1) ∙ ap lowest l)
+
+-- ---- enter, correct, withdraw
+
+module _ (b : Book) (s : Sized b) (p : Place) where
+  pub entered : (a : Aim) (x y h x′ y′ h′ : ℤ) → a ≡ soughtOf b p 0 6 → x′ ≡ x → y′ ≡ y → h′ ≡ h
+      → (r : Step) → r ≡ placedOf b a (wordOr x′) (wordOr y′) (wordOr h′) → r ≡ stepOf (enter p (record { x = x; y = y; h = h })) b
+  unfolding rules effect
+  entered a x y h x′ y′ h′ u ex ey eh =
+      placed-step b p 0 6 s (enter p (record { x = x; y = y; h = h })) 5 (not (empty p (sightO b))) _ refl (turned (empty p (sightO b))) a x y h x′ y′ h′ u ex ey eh refl refl
+    where
+      turned : (i : Bool) → _≡_ {A = ℕ} (cond i 0 6) (cond (not i) 6 0)
+      turned true = refl
+      turned false = refl
+
+  pub corrected : (a : Aim) (x y h x′ y′ h′ : ℤ) → a ≡ soughtOf b p 7 0 → x′ ≡ x → y′ ≡ y → h′ ≡ h
+      → (r : Step) → r ≡ placedOf b a (wordOr x′) (wordOr y′) (wordOr h′) → r ≡ stepOf (correct p (record { x = x; y = y; h = h })) b
+  unfolding rules effect
+  corrected a x y h x′ y′ h′ u ex ey eh =
+      placed-step b p 7 0 s (correct p (record { x = x; y = y; h = h })) 6 (empty p (sightO b)) _ refl refl a x y h x′ y′ h′ u ex ey eh refl refl
+
+  pub withdraw-refused : (a : Aim) → a ≡ soughtOf b p 7 0 → (a .refusal ≡ 0 → ⊥) → step (a .refusal) b ≡ stepOf (withdraw p) b
+  unfolding rules
+  withdraw-refused = sought-refused b p 7 0 s (withdraw p) 6 (empty p (sightO b)) [] refl refl
+
+  pub withdrawn : (a : Aim) → a ≡ soughtOf b p 7 0 → a .refusal ≡ 0 → step 0 (changedOf b (a .place) (0 ∷ 0 ∷ 0 ∷ [])) ≡ stepOf (withdraw p) b
   unfolding rules effect lowest spotWords
-  withdrawn e = step-done b (withdraw p) (changedOf b q (0 ∷ 0 ∷ 0 ∷ [])) (o .form) (on-rules (withdraw p) _ refl ∙ rw (empty-is, e)) (change-is none)
-
-  pub withdraw-empty : isEmpty (spotAt (b .cells) (q * 3)) ≡ true → step 7 b ≡ stepOf (withdraw p) b
-  unfolding rules lowest
-  withdraw-empty e = step-refused b (withdraw p) 6 s (o .form) (on-rules (withdraw p) _ refl ∙ rw (empty-is, e))
+  withdrawn a u z =
+      let o = sought-on b p 7 0 a u z in
+      step-done b (withdraw p) (changedOf b (a .place) (0 ∷ 0 ∷ 0 ∷ [])) (o .0 .form)
+      (sought-rest b p 7 0 s (withdraw p) 6 (empty p (sightO b)) [] refl refl (a .place) (o .0) (o .1)) (change-is b s p (a .place) (o .0) none)
 
 -- ---- take back
 
@@ -296,8 +386,8 @@ module _ (b : Book) (s : Sized b) (e : bookForm b ≡ true) where
     begun-with b′ z r w = step-done b (begin t) b′ e (rw (meant-closed b z, r)) w
 
 -- terms of any size are opened as their words are
-pub begin-given : (b : Book) (t : Terms) → Sized b → stepOf (begin (termsOf (termWordsOr t))) b ≡ stepOf (begin t) b
-begin-given b t s = go (bookForm b) (inRange t) (eqb (b .opened) 0) refl refl refl
+pub begin-given : (b : Book) (t : Terms) → Sized b → (w : List ℕ) → w ≡ termWordsOr t → (r : Step) → r ≡ stepOf (begin (termsOf w)) b → r ≡ stepOf (begin t) b
+begin-given b t s w ew r er = er ∙ ap (λ (l : List ℕ). stepOf (begin (termsOf l)) b) ew ∙ go (bookForm b) (inRange t) (eqb (b .opened) 0) refl refl refl
   where
     u : Terms
     u = termsOf (termWordsOr t)

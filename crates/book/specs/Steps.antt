@@ -3,21 +3,19 @@ use Prim.Native.Nat.{ℕ, _+_, _*_, _-_}
 use mathlib.Core.Bool.{cond}
 use mathlib.Core.Option.{Option, none, some}
 use mathlib.Core.List.{List, [], _∷_}
-use lib.ListN.{getD, length, replicate}
+use lib.ListN.{getD, replicate}
 use lib.Dec.{eqb}
-use Rattle.paper.specs.Units.{Triple, zeros, Place, inSheet, number, pointOf, near}
+use Rattle.paper.specs.Units.{Place, inSheet, number, pointOf, isEmpty, near}
 use Rattle.paper.specs.Books as paper
 use Rattle.paper.specs.Calls.{Act}
-use Rattle.paper.specs.Answers.{Value, lengths, count, done, evaluates, same, listed, Answer}
 use Rattle.paper.specs.Alone.{refusedAlone, next}
 use Rattle.words.specs.Paste.{pasted}
 use Rattle.image.specs.Lengths.{triple, termsOf}
+use Rattle.image.specs.Places.{spotAt}
 use Rattle.changes.specs.Kept.{pushed, popped, more}
 use Rattle.book.specs.declared.Book.{Book}
 use Rattle.book.specs.declared.Step.{Step}
 use Rattle.book.specs.declared.Aim.{Aim}
-use Rattle.book.specs.declared.Lengths.{Lengths}
-use Rattle.book.specs.declared.Count.{Count}
 use Rattle.book.specs.Meaning.{bookOf, bookForm, seen}
 
 abbrev pub step : ℕ → Book → Step
@@ -31,37 +29,6 @@ wordsOr b (some o) = bookOf o
 unfoldable pub stepOf : Act → Book → Step
 stepOf a b = step (refusedAlone a (seen b)) (wordsOr b (next a (seen b)))
 
--- ---- answers as records of numbers
-
-abbrev pub lengthsBy : ℕ → Triple → Lengths
-lengthsBy n v = record { refusal = n; x = v .x; y = v .y; h = v .h }
-
--- what an answer says of lengths, and of a count; such a question is answered in no other way
-abbrev pub lengthsIn : Value → Triple
-lengthsIn done = zeros
-lengthsIn (lengths v) = v
-lengthsIn (count n) = zeros
-lengthsIn (evaluates e) = zeros
-lengthsIn (same b) = zeros
-lengthsIn (listed l) = zeros
-
-unfoldable pub lengthsOf : Answer → Lengths
-lengthsOf a = lengthsBy (a .refused) (lengthsIn (a .value))
-
-abbrev pub countIn : Value → ℕ
-countIn done = 0
-countIn (lengths v) = 0
-countIn (count n) = n
-countIn (evaluates e) = 0
-countIn (same b) = 0
-countIn (listed l) = length l
-
-abbrev pub countBy : ℕ → ℕ → Count
-countBy n m = record { refusal = n; count = m }
-
-unfoldable pub countOf : Answer → Count
-countOf a = countBy (a .refused) (countIn (a .value))
-
 -- ---- steps of the code
 
 -- 1, 2 or 5; or the number of a place of an open book
@@ -70,6 +37,13 @@ aim n p = record { refusal = n; place = p }
 
 unfoldable pub aimOf : Book → Place → Aim
 aimOf b p = cond (bookForm b) (cond (inSheet p) (cond (eqb (b .opened) 0) (aim 5 0) (aim 0 (number p))) (aim 2 0)) (aim 1 0)
+
+-- the same of a call that is refused by e at an empty place and by f at a filled one
+abbrev pub metAt : Book → ℕ → ℕ → Aim → Aim
+metAt b e f a = cond (eqb (a .refusal) 0) (aim (cond (isEmpty (spotAt (b .cells) (a .place * 3))) e f) (a .place)) a
+
+unfoldable pub soughtOf : Book → Place → ℕ → ℕ → Aim
+soughtOf b p e f = metAt b e f (aimOf b p)
 
 -- three words v at the place p, and what stood there kept
 unfoldable pub changedOf : Book → ℕ → List ℕ → Book
@@ -94,8 +68,12 @@ undoneOf b =
     }
 
 -- a reading, in words, at a place where it may stand; 8 where it is far
-unfoldable pub placedOf : Book → ℕ → ℕ → ℕ → ℕ → Step
-placedOf b p x y h = cond (near (termsOf (b .terms)) (pointOf p) (triple x y h)) (step 0 (changedOf b p (x ∷ y ∷ h ∷ []))) (step 8 b)
+abbrev pub putOf : Book → ℕ → ℕ → ℕ → ℕ → Step
+putOf b p x y h = cond (near (termsOf (b .terms)) (pointOf p) (triple x y h)) (step 0 (changedOf b p (x ∷ y ∷ h ∷ []))) (step 8 b)
+
+-- the same where a call goes, unless it is refused there
+unfoldable pub placedOf : Book → Aim → ℕ → ℕ → ℕ → Step
+placedOf b a x y h = cond (eqb (a .refusal) 0) (putOf b (a .place) x y h) (step (a .refusal) b)
 
 -- an open book with these terms, and nothing else in it
 unfoldable pub begunOf : List ℕ → Book

@@ -2,14 +2,12 @@
 ghost use mathlib.Core.Path.{_≡_};
 ghost use mathlib.Core.List.{[], _∷_};
 ghost use mathlib.Core.Option.{none};
-ghost use Prim.Native.Nat.{_+_, _*_, _<_};
+ghost use Prim.Native.Nat.{_<_};
 ghost use lib.ListN.{getD};
-ghost use Rattle.paper.specs.Units.{zeros};
-ghost use Rattle.paper.specs.Calls.{begin, strike, enter, correct, withdraw, takeBack, read, changes};
-ghost use Rattle.paper.specs.Alone.{askedAlone};
-ghost use Rattle.image.specs.Lengths.{termsOf, termsGiven};
-ghost use Rattle.book.specs.Meaning.{bookOf, bookForm, seen};
-ghost use Rattle.book.specs.Steps.{stepOf, aimOf, changedOf, undoneOf, placedOf, begunOf, lengthsBy, lengthsOf, countBy, countOf};
+ghost use Rattle.paper.specs.Calls.{begin, strike, enter, correct, withdraw, takeBack, changes};
+ghost use Rattle.image.specs.Lengths.{wordOr, termsOf, termsGiven};
+ghost use Rattle.book.specs.Meaning.{bookOf, bookForm};
+ghost use Rattle.book.specs.Steps.{stepOf, aimOf, soughtOf, changedOf, undoneOf, placedOf, begunOf};
 use procedure::Procedure;
 
 // Words: a length is length + 10^12, three words 0 are an empty place; the changes kept for taking back, latest first, are four words
@@ -57,59 +55,33 @@ pub fn in_form(b: Book) -> bool
 
 impl Book {
     // The book with three words at a place, and what stood there kept.
-    fn changed(self, place: usize, x: u64, y: u64, h: u64) -> Book
+    fn changed(mut self, place: usize, x: u64, y: u64, h: u64) -> Book
         requires { ⌜ place < 30 ⌝ }
         ensures { λ r. ⌜ r ≡ changedOf self place (x ∷ y ∷ h ∷ []) ⌝ }
     {
-        let terms = self.terms;
         let old = self.cells;
         let was = self.changes;
         let changes = changes::keep(was, &old, place);
         let cells = placing::put(old, place, x, y, h);
-        Book {
-            opened: self.opened,
-            terms,
-            cells,
-            kept: changes::one_more(self.kept),
-            changes,
-        }
+        self.cells = cells;
+        self.changes = changes;
+        self.kept = changes::one_more(self.kept);
+        self
     }
 
     // The book without its latest change.
-    fn undone(self) -> Book
+    fn undone(mut self) -> Book
         requires { ⌜ (getD (self .changes) 0 0 < 30) × (0 < self .kept) ⌝ }
         ensures { λ r. ⌜ r ≡ undoneOf self ⌝ }
     {
-        let terms = self.terms;
         let old = self.cells;
         let was = self.changes;
         let cells = placing::take_back(old, &was);
         let changes = changes::pop(was);
-        Book {
-            opened: self.opened,
-            terms,
-            cells,
-            kept: self.kept - 1,
-            changes,
-        }
-    }
-
-    // A reading, in words, where it may stand: FAR, or the change.
-    fn placed(self, place: usize, x: u64, y: u64, h: u64) -> Step
-        requires { ⌜ place < 30 ⌝ }
-        ensures { λ r. ⌜ r ≡ placedOf self place x y h ⌝ }
-    {
-        let terms = self.terms;
-        if ranges::near(&terms, place, x, y, h) {
-            return Step {
-                refusal: 0,
-                book: self.changed(place, x, y, h),
-            };
-        }
-        Step {
-            refusal: 8,
-            book: self,
-        }
+        self.cells = cells;
+        self.changes = changes;
+        self.kept -= 1;
+        self
     }
 }
 
@@ -144,6 +116,55 @@ impl Book {
             place: 0,
         }
     }
+
+    // The same of a call that is refused by this at an empty place and by that at a filled one; 0 where it is not.
+    pub fn sought(self, series: u64, set: u64, point: u64, empty: u64, filled: u64) -> Aim
+        ensures { λ r. ⌜ r ≡ soughtOf self (record { series = series; set = set; point = point }) empty filled ⌝ }
+    {
+        let aim = self.aim(series, set, point);
+        if aim.refusal != 0 {
+            return aim;
+        }
+        let place = aim.place;
+        let cells = self.cells;
+        if places::empty_at(&cells, place) {
+            return Aim {
+                refusal: empty,
+                place,
+            };
+        }
+        Aim {
+            refusal: filled,
+            place,
+        }
+    }
+
+    // A reading where the call goes: what refuses it there, FAR, or the change.
+    fn placed(self, aim: Aim, x: i64, y: i64, h: i64) -> Step
+        requires { ⌜ (aim .refusal ≡ 0 → aim .place < 30) ⌝ }
+        ensures { λ r. ⌜ r ≡ placedOf self aim (wordOr x) (wordOr y) (wordOr h) ⌝ }
+    {
+        if aim.refusal != 0 {
+            return Step {
+                refusal: aim.refusal,
+                book: self,
+            };
+        }
+        let wx = image::word_of(x);
+        let wy = image::word_of(y);
+        let wh = image::word_of(h);
+        let terms = self.terms;
+        if ranges::near(&terms, aim.place, wx, wy, wh) {
+            return Step {
+                refusal: 0,
+                book: self.changed(aim.place, wx, wy, wh),
+            };
+        }
+        Step {
+            refusal: 8,
+            book: self,
+        }
+    }
 }
 
 // An open book with these terms, no reading, and nothing to take back.
@@ -168,81 +189,32 @@ impl Book {
     pub fn enter(self, series: u64, set: u64, point: u64, x: i64, y: i64, h: i64) -> Step
         ensures { λ r. ⌜ r ≡ stepOf (enter (record { series = series; set = set; point = point }) (record { x = x; y = y; h = h })) self ⌝ }
     {
-        let aim = self.aim(series, set, point);
-        let refusal = aim.refusal;
-        let place = aim.place;
-        if refusal != 0 {
-            return Step {
-                refusal,
-                book: self,
-            };
-        }
-        let cells = self.cells;
-        if places::empty_at(&cells, place) {
-            return self.placed(
-                place,
-                image::word_of(x),
-                image::word_of(y),
-                image::word_of(h),
-            );
-        }
-        Step {
-            refusal: 6,
-            book: self,
-        }
+        let aim = self.sought(series, set, point, 0, 6);
+        self.placed(aim, x, y, h)
     }
 
     // Correct the reading at a filled place.
     pub fn correct(self, series: u64, set: u64, point: u64, x: i64, y: i64, h: i64) -> Step
         ensures { λ r. ⌜ r ≡ stepOf (correct (record { series = series; set = set; point = point }) (record { x = x; y = y; h = h })) self ⌝ }
     {
-        let aim = self.aim(series, set, point);
-        let refusal = aim.refusal;
-        let place = aim.place;
-        if refusal != 0 {
-            return Step {
-                refusal,
-                book: self,
-            };
-        }
-        let cells = self.cells;
-        if places::empty_at(&cells, place) {
-            return Step {
-                refusal: 7,
-                book: self,
-            };
-        }
-        self.placed(
-            place,
-            image::word_of(x),
-            image::word_of(y),
-            image::word_of(h),
-        )
+        let aim = self.sought(series, set, point, 7, 0);
+        self.placed(aim, x, y, h)
     }
 
     // Withdraw the reading at a filled place.
     pub fn withdraw(self, series: u64, set: u64, point: u64) -> Step
         ensures { λ r. ⌜ r ≡ stepOf (withdraw (record { series = series; set = set; point = point })) self ⌝ }
     {
-        let aim = self.aim(series, set, point);
-        let refusal = aim.refusal;
-        let place = aim.place;
-        if refusal != 0 {
+        let aim = self.sought(series, set, point, 7, 0);
+        if aim.refusal != 0 {
             return Step {
-                refusal,
-                book: self,
-            };
-        }
-        let cells = self.cells;
-        if places::empty_at(&cells, place) {
-            return Step {
-                refusal: 7,
+                refusal: aim.refusal,
                 book: self,
             };
         }
         Step {
             refusal: 0,
-            book: self.changed(place, 0, 0, 0),
+            book: self.changed(aim.place, 0, 0, 0),
         }
     }
 
@@ -346,81 +318,5 @@ impl Book {
     {
         let terms = image::terms_of(distance, height, sxy, sh, gxy, gh, x1, y1, h1, x2, y2, h2);
         self.begin_words(terms)
-    }
-}
-
-// ---- questions
-
-#[repr(C)]
-pub struct Lengths {
-    pub refusal: u64,
-    pub x: i64,
-    pub y: i64,
-    pub h: i64,
-}
-
-#[repr(C)]
-pub struct Count {
-    pub refusal: u64,
-    pub count: u64,
-}
-
-// Beside a refusal lengths are 0.
-pub fn no_lengths(refusal: u64) -> Lengths
-    ensures { λ r. ⌜ r ≡ lengthsBy refusal zeros ⌝ }
-{
-    Lengths {
-        refusal,
-        x: 0,
-        y: 0,
-        h: 0,
-    }
-}
-
-// Beside a refusal a count is 0.
-pub fn no_count(refusal: u64) -> Count
-    ensures { λ r. ⌜ r ≡ countBy refusal 0 ⌝ }
-{
-    Count { refusal, count: 0 }
-}
-
-impl Book {
-    // What stands at a place.
-    pub fn read(self, series: u64, set: u64, point: u64) -> Lengths
-        ensures { λ r. ⌜ r ≡ lengthsOf (askedAlone (λ k. read k (record { series = series; set = set; point = point })) (seen self)) ⌝ }
-    {
-        let aim = self.aim(series, set, point);
-        let refusal = aim.refusal;
-        let place = aim.place;
-        if refusal != 0 {
-            return no_lengths(refusal);
-        }
-        let cells = self.cells;
-        if places::empty_at(&cells, place) {
-            return no_lengths(7);
-        }
-        let m = place * 3;
-        Lengths {
-            refusal: 0,
-            x: image::length_of(cells[m]),
-            y: image::length_of(cells[m + 1]),
-            h: image::length_of(cells[m + 2]),
-        }
-    }
-
-    // How many changes can be taken back.
-    pub fn count(self) -> Count
-        ensures { λ r. ⌜ r ≡ countOf (askedAlone changes (seen self)) ⌝ }
-    {
-        if in_form(self) {
-            if self.opened == 0 {
-                return no_count(5);
-            }
-            return Count {
-                refusal: 0,
-                count: self.kept,
-            };
-        }
-        no_count(1)
     }
 }

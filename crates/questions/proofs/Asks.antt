@@ -15,10 +15,11 @@ use Rattle.image.specs.Sights.{sightOf}
 use Rattle.book.specs.declared.Book.{Book}
 use Rattle.book.specs.declared.Aim.{Aim}
 use Rattle.book.specs.Meaning.{openOf, bookForm, seen}
-use Rattle.book.specs.Steps.{aimOf, lengthsBy, lengthsOf}
+use Rattle.book.specs.Steps.{aimOf}
+use Rattle.readings.specs.Answers.{lengthsBy, lengthsOf}
 use Rattle.book.proofs.Meaning.{meant-closed, meant-open, seen-in, seen-out}
 use Rattle.book.proofs.Steps.{On, aim-on}
-use Rattle.book.proofs.Asks.{asked-refused}
+use Rattle.readings.proofs.Asks.{asked-refused}
 use Rattle.sums.specs.Places.{placeAt}
 use Rattle.sums.proofs.Places.{place-back}
 use Rattle.evaluation.specs.Evaluating.{answerTo, judgementOf, notJudged}

@@ -9,15 +9,15 @@ ghost use Rattle.paper.specs.Alone.{askedAlone};
 ghost use Rattle.image.specs.Ready.{Ready};
 ghost use Rattle.image.specs.Sights.{sightOf};
 ghost use Rattle.book.specs.Meaning.{seen};
-ghost use Rattle.book.specs.Steps.{lengthsBy, lengthsOf};
+ghost use Rattle.readings.specs.Answers.{lengthsBy, lengthsOf};
 ghost use Rattle.sums.specs.Places.{placeAt};
 ghost use Rattle.figures.specs.Judging.{AllHeld};
 ghost use Rattle.evaluation.specs.Evaluating.{judgementOf};
 ghost use Rattle.doubles.specs.Doubles.{doubled};
 use book::Book;
-use book::Lengths;
 use doubles::Evaluated;
 use evaluation::Judgement;
+use readings::Lengths;
 
 // 15·r along x, y and h at a place of a full book, counted from 0 in sheet order.
 fn residuals(terms: &[u64; 12], cells: &[u64; 90], place: usize) -> Lengths
@@ -43,12 +43,12 @@ pub fn residual(b: Book, series: u64, set: u64, point: u64) -> Lengths
     let refusal = aim.refusal;
     let place = aim.place;
     if refusal != 0 {
-        return book::no_lengths(refusal);
+        return readings::no_lengths(refusal);
     }
     let terms = b.terms;
     let cells = b.cells;
     if places::any_empty(&cells) {
-        return book::no_lengths(10);
+        return readings::no_lengths(10);
     }
     residuals(&terms, &cells, place)
 }

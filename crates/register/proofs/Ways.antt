@@ -16,7 +16,7 @@ use Rattle.paper.specs.Calls.{fresh, ask, passList}
 use Rattle.paper.specs.TurnedAway.{lowest, questioned, passing}
 use Rattle.paper.specs.Answers.{says, after, given, beside}
 use Rattle.words.specs.Paste.{pasted}
-use Rattle.book.specs.Steps.{countBy, countOf}
+use Rattle.readings.specs.Answers.{countBy, countOf}
 use Rattle.lent.specs.Image.{LENGTH, meantFrom, inForm}
 use Rattle.lent.specs.Calls.{shut, callOn, called, Calls}
 use Rattle.lent.proofs.Image.{state-in, state-out, fresh-image}

@@ -2,12 +2,12 @@
 ghost use mathlib.Core.Path.{_≡_};
 ghost use lib.ListN.{length};
 ghost use Rattle.paper.specs.Calls.{fresh, ask, passList};
-ghost use Rattle.book.specs.Steps.{countOf};
+ghost use Rattle.readings.specs.Answers.{countOf};
 ghost use Rattle.lent.specs.Image.{LENGTH};
 ghost use Rattle.lent.specs.Calls.{called, Calls};
 ghost use Rattle.register.specs.Answers.{checked, listAfter};
-use book::Count;
 use lent::Layout;
+use readings::Count;
 
 // The length that a register has, in bytes.
 #[no_mangle]
@@ -50,7 +50,7 @@ pub extern "C" fn rtk_pass_list(register: &[u8], list: &mut [u8]) -> Count
         let n = roll.count;
         let numbers = roll.numbers;
         if list.len() < n {
-            return book::no_count(13);
+            return readings::no_count(13);
         }
         listing::write(&numbers[..n], list);
         return Count {
@@ -58,5 +58,5 @@ pub extern "C" fn rtk_pass_list(register: &[u8], list: &mut [u8]) -> Count
             count: n as u64,
         };
     }
-    book::no_count(1)
+    readings::no_count(1)
 }

@@ -5,15 +5,15 @@ use Rattle.asks.proofs.rtk_changes.Statement.{statement}
 use Rattle.asks.proofs.rtk_changes.Tie as tie
 use Rattle.asks.proofs.rtk_changes.Reads as reads
 use Rattle.asks.proofs.rtk_changes.Lts as lts
-use Rattle.book.proofs.Book.count.Reads as count-reads
 use Rattle.lent.proofs.found.Reads as found-reads
 use Rattle.lent.proofs.turned_away.Reads as turned-away-reads
+use Rattle.readings.proofs.changes.Reads as changes-reads
 
 found-requires : tie.Need-found-requires
 found-requires c κs = search needs
 
-count-requires : tie.Need-count-requires
-count-requires c κs = search needs
+changes-requires : tie.Need-changes-requires
+changes-requires c κs = search needs
 
 turned-away-requires : tie.Need-turned-away-requires
 turned-away-requires c κs = search needs
@@ -21,7 +21,7 @@ turned-away-requires c κs = search needs
 returns : tie.Need-returns
 returns c =
     let s = c .before .before .before .before in
-    count-asked (s .args .register .now) (s .args .book) changes counts _ (c .before .before .found .ensures) _ _ (c .before .count .ensures) (c .turned-away .ensures)
+    count-asked (s .args .register .now) (s .args .book) changes counts _ (c .before .before .found .ensures) _ _ (c .before .changes .ensures) (c .turned-away .ensures)
 
 pub rtk-changes-spec : {M : Type 1} → statement M
-rtk-changes-spec = tie.close (tie.spec found-requires count-requires turned-away-requires returns)
+rtk-changes-spec = tie.close (tie.spec found-requires changes-requires turned-away-requires returns)

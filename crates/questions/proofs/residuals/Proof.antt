@@ -2,7 +2,7 @@
 use mathlib.Core.Path.{_≡_, _∙_}
 use mir.Syntax.{w64}
 use mir.Val.{toZ, ofZ}
-use Rattle.book.proofs.Asks.{lengths-same}
+use Rattle.readings.proofs.Asks.{lengths-same}
 use borrow.Author.Needs.{needs}
 use Rattle.questions.proofs.residuals.Statement.{statement}
 use Rattle.questions.proofs.residuals.Tie as tie

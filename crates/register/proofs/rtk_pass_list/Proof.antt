@@ -9,7 +9,7 @@ use Rattle.register.proofs.rtk_pass_list.Statement.{statement}
 use Rattle.register.proofs.rtk_pass_list.Tie as tie
 use Rattle.register.proofs.rtk_pass_list.Reads as reads
 use Rattle.register.proofs.rtk_pass_list.Lts as lts
-use Rattle.book.proofs.no_count.Reads as no-count-reads
+use Rattle.readings.proofs.no_count.Reads as no-count-reads
 use Rattle.lent.proofs.formed.Reads as formed-reads
 use Rattle.listing.proofs.listed.Reads as listed-reads
 use Rattle.listing.proofs.write.Reads as write-reads

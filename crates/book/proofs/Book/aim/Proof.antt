@@ -1,6 +1,6 @@
 use Rattle.paper.specs.Units.{Place}
 use native.Mathlib.Omega.{arith}
-use mathlib.Core.Path.{_≡_, _∙_}
+use mathlib.Core.Path.{_∙_}
 use borrow.Author.Tests.{eq-eqb, ne-eqb}
 use Rattle.form.proofs.Laws.{known}
 use Rattle.image.proofs.Places.{place-out, place-in}

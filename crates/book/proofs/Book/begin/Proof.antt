@@ -1,12 +1,8 @@
 use mathlib.Core.Path.{_≡_, ap, _∙_}
-use mathlib.Core.List.{List}
-use Prim.Native.Nat.{ℕ}
-use Rattle.paper.specs.Calls.{begin}
 use lib.IntN.{ℤ}
 use mir.Syntax.{w64}
 use mir.ValLaws.{toZ-ofZ}
-use Rattle.image.specs.Lengths.{termsOf, termWordsOr, termsGiven}
-use Rattle.book.specs.Steps.{stepOf}
+use Rattle.image.specs.Lengths.{termWordsOr, termsGiven}
 use Rattle.book.proofs.Meaning.{Sized}
 use Rattle.book.proofs.Steps.{begin-given}
 use borrow.Author.Needs.{needs}
@@ -52,7 +48,7 @@ returns c =
     (toZ-ofZ w64 (a .x2) (s .fits .x2))
     (toZ-ofZ w64 (a .y2) (s .fits .y2))
     (toZ-ofZ w64 (a .h2) (s .fits .h2))) in
-    c .begin-words .ensures ∙ ap (λ (l : List ℕ). stepOf (begin (termsOf l)) (a .self)) e ∙ begin-given (a .self) t (sized s)
+    begin-given (a .self) t (sized s) (c .before .terms-of .result) e (c .begin-words .result) (c .begin-words .ensures)
 
 pub begin-spec : {M : Type 1} → statement M
 begin-spec = tie.close (tie.spec terms-of-requires begin-words-requires returns)

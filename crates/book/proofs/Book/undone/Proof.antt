@@ -15,8 +15,8 @@ take-back-requires c κs = search needs
 pop-requires : tie.Need-pop-requires
 pop-requires c κs = search needs
 
-sub-t9 : tie.Need-sub-t9
-sub-t9 c = search needs
+sub-self : tie.Need-sub-self
+sub-self c = search needs
 
 returns : tie.Need-returns
 unfolding undoneOf
@@ -24,4 +24,4 @@ returns c =
     book-parts _ _ _ _ _ _ _ _ _ _ refl refl (c .before .before .take-back .ensures) refl (c .before .pop .ensures)
 
 pub undone-spec : {M : Type 1} → statement M
-undone-spec = tie.close (tie.spec take-back-requires pop-requires sub-t9 returns)
+undone-spec = tie.close (tie.spec take-back-requires pop-requires sub-self returns)

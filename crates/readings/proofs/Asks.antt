@@ -1,35 +1,36 @@
 -- The ways out of a question of a book.
 -- Assumes nothing.
-use Prim.Native.Nat.{ℕ, suc, _+_, _*_, _<_}
+use Prim.Native.Nat.{ℕ, _+_, _*_, _<_}
 use native.Mathlib.Omega.{arith}
 use native.Mathlib.Nat.{zero-add}
 use mathlib.Core.Path.{_≡_, refl, sym, ap, _∙_, subst}
-use mathlib.Core.Bool.{Bool, true, false, cond, not, _&&_, _||_}
-use mathlib.Core.Option.{Option, none, some, Option·map}
-use mathlib.Core.List.{List, [], _∷_}
-use lib.ListN.{length, getD}
+use mathlib.Core.Bool.{Bool, true, false, cond}
+use mathlib.Core.Option.{none}
+use mathlib.Core.List.{List}
+use lib.ListN.{getD}
 use lib.Dec.{eqb}
 use lib.IntN.{ℤ}
-use borrow.Author.Tests.{eqb-true, eqb-false}
-use Rattle.paper.specs.Procedure.{PLACES}
-use Rattle.paper.specs.Units.{Triple, zeros, Place, inSheet, number, nearAt, isEmpty, standing, Spot}
+use borrow.Author.Tests.{eqb-true}
+use Rattle.paper.specs.Units.{zeros, Place, inSheet, number, nearAt, isEmpty, Spot}
 use Rattle.paper.specs.Books as paper
-use Rattle.paper.specs.Calls.{Question, read, changes, ask}
+use Rattle.paper.specs.Calls.{Question, read, changes}
 use Rattle.paper.specs.TurnedAway.{Rule, lowest, questioned, empty}
-use Rattle.paper.specs.Answers.{Value, lengths, given, beside, suspectIn, says}
+use Rattle.paper.specs.Answers.{lengths, given, beside, says}
 use Rattle.paper.specs.Alone.{askedAlone}
 use Rattle.paper.proofs.Form.{parts}
 use Rattle.paper.proofs.History.{near-at}
-use Rattle.image.specs.Lengths.{len, triple, termsOf}
+use Rattle.image.specs.Lengths.{triple, termsOf}
 use Rattle.image.specs.Places.{allZero, spotOf, spotAt, placesOf}
 use Rattle.image.proofs.Places.{place-at, empty-spot}
 use Rattle.image.proofs.Bounds.{spot-short, full-bound}
 use Rattle.book.specs.declared.Book.{Book}
-use Rattle.book.specs.declared.Lengths.{Lengths}
-use Rattle.book.specs.Meaning.{openOf, meant, bookForm, seen}
-use Rattle.book.specs.Steps.{aim, aimOf, lengthsBy, lengthsOf, countBy, countOf}
-use Rattle.book.proofs.Meaning.{Sized, Sound, form-sound, meant-closed, meant-open, seen-in, seen-out}
-use Rattle.book.proofs.Steps.{sightO, On, placed, place-small, spot-there, empty-is, ranged, kept-count}
+use Rattle.book.specs.declared.Aim.{Aim}
+use Rattle.book.specs.Meaning.{openOf, bookForm, seen}
+use Rattle.book.specs.Steps.{aim, aimOf, soughtOf}
+use Rattle.book.proofs.Meaning.{Sized, form-sound, meant-closed, meant-open, seen-in, seen-out}
+use Rattle.book.proofs.Steps.{sightO, On, placed, aim-on, place-small, sought-on, spot-there, empty-is, ranged, kept-count}
+use Rattle.readings.specs.declared.Lengths.{Lengths}
+use Rattle.readings.specs.Answers.{lengthsBy, lengthsOf, countBy, countOf}
 
 -- ---- lengths
 
@@ -57,7 +58,7 @@ module _ (b : Book) (s : Sized b) (p : Place) (q : ℕ) (o : On b p q) where
   abbrev h : ℕ
   h = getD (b .cells) (q * 3 + 2) 0
 
-  pub read-empty : isEmpty (spotAt (b .cells) (q * 3)) ≡ true → lengthsBy 7 zeros ≡ lengthsOf (askedAlone (λ k. read k p) (seen b))
+  read-empty : isEmpty (spotAt (b .cells) (q * 3)) ≡ true → lengthsBy 7 zeros ≡ lengthsOf (askedAlone (λ k. read k p) (seen b))
   unfolding lengthsOf askedAlone says lowest questioned beside
   read-empty e = rw (seen-in b (o .form), o .in-sheet, empty-is b s p q o, e, meant-open b (o .opened))
 
@@ -75,6 +76,32 @@ module _ (b : Book) (s : Sized b) (p : Place) (q : ℕ) (o : On b p q) where
       let n : nearAt (termsOf (b .terms)) q (getD (placesOf (b .cells)) q none) ≡ true = rw zero-add at (near-at (termsOf (b .terms)) 0 (placesOf (b .cells)) q (parts (openOf b) (g .formed) .close)) in
       let m : nearAt (termsOf (b .terms)) q (spotAt (b .cells) (q * 3)) ≡ true = subst (λ (v : Spot). nearAt (termsOf (b .terms)) q v ≡ true) (place-at (b .cells) q (place-small b s p q o)) n in
       full-bound x y h (full e) (spot-short (termsOf (b .terms)) q (spotAt (b .cells) (q * 3)) (ranged b s g) m)
+
+-- and EMPTY
+pub read-refused : (b : Book) (p : Place) (a : Aim) → Sized b → a ≡ soughtOf b p 7 0 → (a .refusal ≡ 0 → ⊥) → lengthsBy (a .refusal) zeros ≡ lengthsOf (askedAlone (λ k. read k p) (seen b))
+unfolding soughtOf questioned beside
+read-refused b p a s u z = go (eqb (aimOf b p .refusal) 0) refl (ap (λ (m : Aim). m .refusal) u)
+  where
+    q : ℕ
+    q = aimOf b p .place
+
+    there : On b p q → (t : Bool) → isEmpty (spotAt (b .cells) (q * 3)) ≡ t → a .refusal ≡ cond t 7 0
+        → lengthsBy (a .refusal) zeros ≡ lengthsOf (askedAlone (λ k. read k p) (seen b))
+    there o true w v = rw v (read-empty b s p q o w)
+    there o false w v = absurd (z v)
+
+    go : (i : Bool) → eqb (aimOf b p .refusal) 0 ≡ i → a .refusal ≡ cond i (aim (cond (isEmpty (spotAt (b .cells) (q * 3))) 7 0) q) (aimOf b p) .refusal
+        → lengthsBy (a .refusal) zeros ≡ lengthsOf (askedAlone (λ k. read k p) (seen b))
+    go false w v = asked-refused b p (λ k. read k p) _ (a .refusal) refl refl v z
+    go true w v = there (aim-on b p q (eqb-true (aimOf b p .refusal) 0 w) refl) (isEmpty (spotAt (b .cells) (q * 3))) refl v
+
+-- a place that is read is one of the sheet, and filled
+pub read-on : (b : Book) (p : Place) (a : Aim) → a ≡ soughtOf b p 7 0 → a .refusal ≡ 0 → On b p (a .place) × (isEmpty (spotAt (b .cells) (a .place * 3)) ≡ false)
+read-on b p a u z = let o = sought-on b p 7 0 a u z in (o .0, go (isEmpty (spotAt (b .cells) (a .place * 3))) (o .1))
+  where
+    go : (t : Bool) → _≡_ {A = ℕ} (cond t 7 0) 0 → t ≡ false
+    go true e = absurd (omega (arith, e))
+    go false e = refl
 
 pub lengths-same : (x y h x′ y′ h′ : ℤ) → x ≡ x′ → y ≡ y′ → h ≡ h′ → _≡_ {A = Lengths} (record { refusal = 0; x = x; y = y; h = h }) (lengthsBy 0 (record { x = x′; y = y′; h = h′ }))
 lengths-same x y h x′ y′ h′ e f g = rw (e, f, g)

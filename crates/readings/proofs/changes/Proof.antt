@@ -1,16 +1,16 @@
 use mathlib.Core.Path.{_∙_}
 use Rattle.form.proofs.Laws.{known}
 use Rattle.book.proofs.Meaning.{Sized}
-use Rattle.book.proofs.Asks.{count-unformed, count-closed, count-open}
+use Rattle.readings.proofs.Asks.{count-unformed, count-closed, count-open}
 use borrow.Author.Needs.{needs}
-use Rattle.book.proofs.Book.count.Statement.{statement}
-use Rattle.book.proofs.Book.count.Tie as tie
-use Rattle.book.proofs.Book.count.Reads as reads
-use Rattle.book.proofs.Book.count.Lts as lts
+use Rattle.readings.proofs.changes.Statement.{statement}
+use Rattle.readings.proofs.changes.Tie as tie
+use Rattle.readings.proofs.changes.Reads as reads
+use Rattle.readings.proofs.changes.Lts as lts
 use Rattle.book.proofs.in_form.Reads as in-form-reads
-use Rattle.book.proofs.no_count.Reads as no-count-reads
+use Rattle.readings.proofs.no_count.Reads as no-count-reads
 
-sized : (s : tie.Start) → Sized (s .args .self)
+sized : (s : tie.Start) → Sized (s .args .b)
 sized s = record { terms-12 = search needs; cells-90 = search needs; changes-128 = search needs }
 
 in-form-requires : tie.Need-in-form-requires
@@ -34,7 +34,7 @@ returns-3 : tie.Need-returns-3
 returns-3 c =
     c .no-count2 .ensures ∙ count-unformed _ (known (c .before .before .in-form .ensures) (c .before .if1 .left))
 
-pub count-spec : {M : Type 1} → statement M
-count-spec =
+pub changes-spec : {M : Type 1} → statement M
+changes-spec =
     tie.close
     (tie.spec in-form-requires no-count-requires returns returns-2 no-count-requires-2 returns-3)
