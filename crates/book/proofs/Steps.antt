@@ -207,6 +207,11 @@ module _ (b : Book) (a : Aim) where
 
 -- ---- a call that is refused by e at an empty place and by f at a filled one
 
+-- refused before the place is looked at; or on a place, and refused by what stands there or by nothing
+pub data Sought (b : Book) (p : Place) (e f : ℕ) (a : Aim) : Type 0 where
+  before : a ≡ aimOf b p → (a .refusal ≡ 0 → ⊥) → Sought b p e f a
+  there : On b p (a .place) → a .refusal ≡ cond (isEmpty (spotAt (b .cells) (a .place * 3))) e f → Sought b p e f a
+
 module _ (b : Book) (p : Place) (e f : ℕ) where
   pub sought-before : (a : Aim) → a ≡ aimOf b p → (a .refusal ≡ 0 → ⊥) → a ≡ soughtOf b p e f
   unfolding soughtOf
@@ -216,18 +221,23 @@ module _ (b : Book) (p : Place) (e f : ℕ) where
   unfolding soughtOf
   sought-there a t u z v i w = rw (← u, eq-eqb (a .refusal) 0 z, ← v, w)
 
-  -- where it is not refused it is on a place, and not refused by what stands there
-  pub sought-on : (a : Aim) → a ≡ soughtOf b p e f → a .refusal ≡ 0 → On b p (a .place) × (cond (isEmpty (spotAt (b .cells) (a .place * 3))) e f ≡ 0)
+  pub sought-way : (a : Aim) → a ≡ soughtOf b p e f → Sought b p e f a
   unfolding soughtOf
-  sought-on a u z = go (eqb (aimOf b p .refusal) 0) refl u
+  sought-way a u = go (eqb (aimOf b p .refusal) 0) refl u
     where
       go : (t : Bool) → eqb (aimOf b p .refusal) 0 ≡ t
-          → a ≡ cond t (aim (cond (isEmpty (spotAt (b .cells) (aimOf b p .place * 3))) e f) (aimOf b p .place)) (aimOf b p)
-          → On b p (a .place) × (cond (isEmpty (spotAt (b .cells) (a .place * 3))) e f ≡ 0)
+          → a ≡ cond t (aim (cond (isEmpty (spotAt (b .cells) (aimOf b p .place * 3))) e f) (aimOf b p .place)) (aimOf b p) → Sought b p e f a
       go true w u =
           let q : a .place ≡ aimOf b p .place = ap (λ (m : Aim). m .place) u in
-          (aim-on b p (a .place) (eqb-true (aimOf b p .refusal) 0 w) q, rw q (sym (ap (λ (m : Aim). m .refusal) u) ∙ z))
-      go false w u = absurd (eqb-false (aimOf b p .refusal) 0 w (sym (ap (λ (m : Aim). m .refusal) u) ∙ z))
+          there (aim-on b p (a .place) (eqb-true (aimOf b p .refusal) 0 w) q) (rw q (ap (λ (m : Aim). m .refusal) u))
+      go false w u = before u (λ z. eqb-false (aimOf b p .refusal) 0 w (sym (ap (λ (m : Aim). m .refusal) u) ∙ z))
+
+  pub sought-on : (a : Aim) → a ≡ soughtOf b p e f → a .refusal ≡ 0 → On b p (a .place) × (cond (isEmpty (spotAt (b .cells) (a .place * 3))) e f ≡ 0)
+  sought-on a u z = go (sought-way a u)
+    where
+      go : Sought b p e f a → On b p (a .place) × (cond (isEmpty (spotAt (b .cells) (a .place * 3))) e f ≡ 0)
+      go (before v n) = absurd (n z)
+      go (there o v) = (o, sym v ∙ z)
 
   pub sought-small : Sized b → (a : Aim) → a ≡ soughtOf b p e f → a .refusal ≡ 0 → a .place < PLACES
   sought-small s a u z = place-small b s p (a .place) (sought-on a u z .0)
@@ -235,21 +245,17 @@ module _ (b : Book) (p : Place) (e f : ℕ) where
   -- an act whose rule behind PLACE and CLOSED says the same
   module _ (s : Sized b) (a : Act) (m : ℕ) (t : Bool) (rest : List Rule) (r : rules a (sightO b) ≡ placed b p (suc m when t ∷ rest)) (k : cond (empty p (sightO b)) e f ≡ cond t (suc m) 0) where
     sought-refused : (c : Aim) → c ≡ soughtOf b p e f → (c .refusal ≡ 0 → ⊥) → step (c .refusal) b ≡ stepOf a b
-    unfolding soughtOf lowest
-    sought-refused c u z = go (eqb (aimOf b p .refusal) 0) refl (ap (λ (m : Aim). m .refusal) u)
+    unfolding lowest
+    sought-refused c u z = go (sought-way c u)
       where
-        there : (q : ℕ) → On b p q → (n : ℕ) (i : Bool) → t ≡ i → n ≡ cond i (suc m) 0 → (n ≡ 0 → ⊥) → step n b ≡ stepOf a b
-        there q o zero i w v z = absurd (z refl)
-        there q o (suc n) false w v z = absurd (omega (arith, v))
-        there q o (suc n) true w v z = step-refused b a n s (o .form) (on-rules b s p q o a (suc m when t ∷ rest) r ∙ rw w (sym v))
+        met : (q : ℕ) → On b p q → (n : ℕ) (i : Bool) → t ≡ i → n ≡ cond i (suc m) 0 → (n ≡ 0 → ⊥) → step n b ≡ stepOf a b
+        met q o zero i w v z = absurd (z refl)
+        met q o (suc n) false w v z = absurd (omega (arith, v))
+        met q o (suc n) true w v z = step-refused b a n s (o .form) (on-rules b s p q o a (suc m when t ∷ rest) r ∙ rw w (sym v))
 
-        go : (i : Bool) → eqb (aimOf b p .refusal) 0 ≡ i
-            → c .refusal ≡ cond i (aim (cond (isEmpty (spotAt (b .cells) (aimOf b p .place * 3))) e f) (aimOf b p .place)) (aimOf b p) .refusal
-            → step (c .refusal) b ≡ stepOf a b
-        go false w v = aim-refused b p a (suc m when t ∷ rest) (c .refusal) s r v z
-        go true w v =
-            let o = aim-on b p (aimOf b p .place) (eqb-true (aimOf b p .refusal) 0 w) refl in
-            there (aimOf b p .place) o (c .refusal) t refl (v ∙ ap (λ (i : Bool). cond i e f) (sym (empty-is b s p (aimOf b p .place) o)) ∙ k) z
+        go : Sought b p e f c → step (c .refusal) b ≡ stepOf a b
+        go (before v n) = aim-refused b p a (suc m when t ∷ rest) (c .refusal) s r (ap (λ (m : Aim). m .refusal) v) n
+        go (there o v) = met (c .place) o (c .refusal) t refl (v ∙ ap (λ (i : Bool). cond i e f) (sym (empty-is b s p (c .place) o)) ∙ k) z
 
     sought-rest : (q : ℕ) → On b p q → cond (isEmpty (spotAt (b .cells) (q * 3))) e f ≡ 0 → lowest (rules a (sightO b)) ≡ lowest rest
     unfolding lowest

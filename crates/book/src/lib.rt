@@ -117,7 +117,7 @@ impl Book {
         }
     }
 
-    // The same of a call that is refused by this at an empty place and by that at a filled one; 0 where it is not.
+    // The same of a call that is refused by `empty` at an empty place and by `filled` at a filled one; 0 refuses nothing.
     pub fn sought(self, series: u64, set: u64, point: u64, empty: u64, filled: u64) -> Aim
         ensures { λ r. ⌜ r ≡ soughtOf self (record { series = series; set = set; point = point }) empty filled ⌝ }
     {

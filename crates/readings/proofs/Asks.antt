@@ -28,7 +28,7 @@ use Rattle.book.specs.declared.Aim.{Aim}
 use Rattle.book.specs.Meaning.{openOf, bookForm, seen}
 use Rattle.book.specs.Steps.{aim, aimOf, soughtOf}
 use Rattle.book.proofs.Meaning.{Sized, form-sound, meant-closed, meant-open, seen-in, seen-out}
-use Rattle.book.proofs.Steps.{sightO, On, placed, aim-on, place-small, sought-on, spot-there, empty-is, ranged, kept-count}
+use Rattle.book.proofs.Steps.{sightO, On, placed, Sought, before, there, place-small, sought-way, sought-on, spot-there, empty-is, ranged, kept-count}
 use Rattle.readings.specs.declared.Lengths.{Lengths}
 use Rattle.readings.specs.Answers.{lengthsBy, lengthsOf, countBy, countOf}
 
@@ -79,21 +79,17 @@ module _ (b : Book) (s : Sized b) (p : Place) (q : ℕ) (o : On b p q) where
 
 -- and EMPTY
 pub read-refused : (b : Book) (p : Place) (a : Aim) → Sized b → a ≡ soughtOf b p 7 0 → (a .refusal ≡ 0 → ⊥) → lengthsBy (a .refusal) zeros ≡ lengthsOf (askedAlone (λ k. read k p) (seen b))
-unfolding soughtOf questioned beside
-read-refused b p a s u z = go (eqb (aimOf b p .refusal) 0) refl (ap (λ (m : Aim). m .refusal) u)
+unfolding questioned beside
+read-refused b p a s u z = go (sought-way b p 7 0 a u)
   where
-    q : ℕ
-    q = aimOf b p .place
-
-    there : On b p q → (t : Bool) → isEmpty (spotAt (b .cells) (q * 3)) ≡ t → a .refusal ≡ cond t 7 0
+    met : On b p (a .place) → (t : Bool) → isEmpty (spotAt (b .cells) (a .place * 3)) ≡ t → a .refusal ≡ cond t 7 0
         → lengthsBy (a .refusal) zeros ≡ lengthsOf (askedAlone (λ k. read k p) (seen b))
-    there o true w v = rw v (read-empty b s p q o w)
-    there o false w v = absurd (z v)
+    met o true w v = rw v (read-empty b s p (a .place) o w)
+    met o false w v = absurd (z v)
 
-    go : (i : Bool) → eqb (aimOf b p .refusal) 0 ≡ i → a .refusal ≡ cond i (aim (cond (isEmpty (spotAt (b .cells) (q * 3))) 7 0) q) (aimOf b p) .refusal
-        → lengthsBy (a .refusal) zeros ≡ lengthsOf (askedAlone (λ k. read k p) (seen b))
-    go false w v = asked-refused b p (λ k. read k p) _ (a .refusal) refl refl v z
-    go true w v = there (aim-on b p q (eqb-true (aimOf b p .refusal) 0 w) refl) (isEmpty (spotAt (b .cells) (q * 3))) refl v
+    go : Sought b p 7 0 a → lengthsBy (a .refusal) zeros ≡ lengthsOf (askedAlone (λ k. read k p) (seen b))
+    go (before v n) = asked-refused b p (λ k. read k p) _ (a .refusal) refl refl (ap (λ (m : Aim). m .refusal) v) n
+    go (there o v) = met o (isEmpty (spotAt (b .cells) (a .place * 3))) refl v
 
 -- a place that is read is one of the sheet, and filled
 pub read-on : (b : Book) (p : Place) (a : Aim) → a ≡ soughtOf b p 7 0 → a .refusal ≡ 0 → On b p (a .place) × (isEmpty (spotAt (b .cells) (a .place * 3)) ≡ false)
