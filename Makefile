@@ -8,7 +8,7 @@ FILE = examples/example.field
 # target/evaluate.log.
 evaluate:
 	@mkdir -p target
-	@rt check evaluate > target/evaluate.log 2>&1 || { cat target/evaluate.log; exit 1; }
+	@.ci/rt check evaluate > target/evaluate.log 2>&1 || { cat target/evaluate.log; exit 1; }
 	@.ci/x86_64 target/bin/evaluate < $(FILE)
 
 # The gate: every crate proved from nothing, every must-fail edit refused; then the Rust tests and the example files on what was
@@ -17,7 +17,7 @@ test:
 	@.ci/run
 
 proofs:
-	@rt ci
+	@.ci/rt ci
 
 rust:
 	@.ci/rust

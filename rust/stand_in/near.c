@@ -13,9 +13,15 @@
 #include <sys/mman.h>
 #include <unistd.h>
 
-static pthread_mutex_t turn = PTHREAD_MUTEX_INITIALIZER;
-static desk *between;
-static int ask, hear;
+/* A far program, its desk, and whose turn it is. */
+typedef struct {
+    pthread_mutex_t turn;
+    desk *between;
+    int ask, hear;
+} side;
+
+/* Two, so that the tests of two threads do not wait for each other. */
+static side sides[2] = {{.turn = PTHREAD_MUTEX_INITIALIZER}, {.turn = PTHREAD_MUTEX_INITIALIZER}};
 
 static void must(int holds, const char *what)
 {
@@ -33,14 +39,14 @@ static void begin_far(int shared, int asked, int heard)
     _exit(1);
 }
 
-static void begin(void)
+static void begin(side *s)
 {
     /* Above the numbers that the child gives away. */
     int shared = fcntl(memfd_create("desk", MFD_CLOEXEC), F_DUPFD_CLOEXEC, 10);
     int there[2], back[2];
-    must(shared >= 0 && ftruncate(shared, sizeof *between) == 0, "no shared memory");
-    between = mmap(NULL, sizeof *between, PROT_READ | PROT_WRITE, MAP_SHARED, shared, 0);
-    must(between != MAP_FAILED, "no shared memory");
+    must(shared >= 0 && ftruncate(shared, sizeof *s->between) == 0, "no shared memory");
+    s->between = mmap(NULL, sizeof *s->between, PROT_READ | PROT_WRITE, MAP_SHARED, shared, 0);
+    must(s->between != MAP_FAILED, "no shared memory");
     must(pipe2(there, O_CLOEXEC) == 0 && pipe2(back, O_CLOEXEC) == 0, "no pipe");
     pid_t child = fork();
     must(child >= 0, "not begun");
@@ -49,8 +55,19 @@ static void begin(void)
     close(there[0]);
     close(back[1]);
     close(shared);
-    ask = there[1];
-    hear = back[0];
+    s->ask = there[1];
+    s->hear = back[0];
+}
+
+/* A side for one call alone: the first, or the second where the first is taken. */
+static side *taken(void)
+{
+    side *s = pthread_mutex_trylock(&sides[0].turn) == 0 ? &sides[0] : &sides[1];
+    if (s == &sides[1])
+        pthread_mutex_lock(&s->turn);
+    if (s->between == NULL)
+        begin(s);
+    return s;
 }
 
 static void lend(lent *to, const uint8_t *from, size_t length)
@@ -86,18 +103,17 @@ static answer both(call c, const uint8_t *bytes, size_t length, const uint8_t *l
                    size_t list_length, const uint64_t *numbers, size_t count)
 {
     char token = 0;
-    pthread_mutex_lock(&turn);
-    if (between == NULL)
-        begin();
+    side *s = taken();
+    desk *between = s->between;
     between->call = c;
     memcpy(between->numbers, numbers, count * sizeof *numbers);
     lend(&between->slices[0], bytes, length);
     lend(&between->slices[1], list, list_length);
-    must(write(ask, &token, 1) == 1 && read(hear, &token, 1) == 1, "it ended");
+    must(write(s->ask, &token, 1) == 1 && read(s->hear, &token, 1) == 1, "it ended");
     answer given = between->answer;
     give_back(&between->slices[0], bytes);
     give_back(&between->slices[1], list);
-    pthread_mutex_unlock(&turn);
+    pthread_mutex_unlock(&s->turn);
     return given;
 }
 

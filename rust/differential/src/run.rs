@@ -4,12 +4,13 @@ use crate::call::Call;
 use crate::damage::damaged;
 use crate::dice::Dice;
 use crate::examiner::Examiner;
-use crate::program::Program;
+use crate::program::{Library, Program};
 use crate::side_by_side::{Difference, SideBySide};
 use crate::tally::Tally;
 use crate::{examples, file};
 use meliphrast::LENGTH;
 use std::ops::Range;
+use std::thread;
 
 /// The seed of the gate's run.
 pub const SEED: u64 = 171_238;
@@ -44,6 +45,17 @@ pub fn run(
         try_files(&mut pair, &mut examiner.dice)?;
     }
     Ok(pair.tally)
+}
+
+/// The same of the library, its rounds shared out to two threads: it takes calls from any.
+pub fn run_on_two(seed: u64, rounds: Range<u64>) -> Result<Tally, Box<Difference>> {
+    let half = rounds.start + (rounds.end - rounds.start) / 2;
+    thread::scope(|threads| {
+        let first = threads.spawn(|| run(&mut Library, seed, rounds.start..half));
+        let mut tally = run(&mut Library, seed, half..rounds.end)?;
+        tally += first.join().expect("the other thread ends")?;
+        Ok(tally)
+    })
 }
 
 type Outcome = Result<(), Box<Difference>>;

@@ -6,6 +6,7 @@ use crate::image::Image;
 use crate::sums;
 use std::collections::BTreeMap;
 use std::fmt;
+use std::ops::AddAssign;
 
 const OUTCOMES: usize = 15;
 
@@ -185,6 +186,21 @@ impl Tally {
         let absent = cases.filter(|case| !self.cases.contains_key(*case));
         missing.extend(absent.map(|case| case.to_string()));
         missing
+    }
+}
+
+impl AddAssign for Tally {
+    fn add_assign(&mut self, other: Tally) {
+        let outcomes = self.outcomes.iter_mut().flatten();
+        let others = other.outcomes.iter().flatten();
+        let rooms = self.rooms.iter_mut().zip(&other.rooms);
+        for (here, there) in outcomes.zip(others).chain(rooms) {
+            *here += there;
+        }
+        for (case, times) in other.cases {
+            *self.cases.entry(case).or_default() += times;
+        }
+        self.damaged += other.damaged;
     }
 }
 

@@ -2,7 +2,7 @@
 //! implementation.
 
 use differential::program::Library;
-use differential::run::{flip_every_bit, run, GATE, SEED};
+use differential::run::{flip_every_bit, run, run_on_two, GATE, SEED};
 use differential::side_by_side::Difference;
 use differential::tally::Tally;
 use differential::wrapped::Wrapped;
@@ -22,7 +22,7 @@ fn told(outcome: Result<Tally, Box<Difference>>) -> Tally {
 
 #[test]
 fn the_library_answers_as_the_second_implementation() {
-    let tally = told(run(&mut Library, SEED, GATE));
+    let tally = told(run_on_two(SEED, GATE));
     show("library", &tally);
     let missing = tally.missing();
     assert!(missing.is_empty(), "not tried: {missing:?}");

@@ -3,8 +3,7 @@
 //! Ten million calls unless more or fewer are asked for. A difference is told with its round, so
 //! that the round can be run alone: `long_run 1 SEED ROUND`.
 
-use differential::program::Library;
-use differential::run::{run, ROUND, SEED};
+use differential::run::{run_on_two, ROUND, SEED};
 use std::env;
 use std::process::ExitCode;
 
@@ -21,7 +20,7 @@ fn main() -> ExitCode {
     let (calls, seed, first) = (given(0, CALLS), given(1, SEED + 1), given(2, 0));
     let rounds = first..first + calls.div_ceil(ROUND);
     println!("seed {seed}, rounds {rounds:?}");
-    match run(&mut Library, seed, rounds) {
+    match run_on_two(seed, rounds) {
         Ok(tally) => {
             println!("no difference: {tally}");
             ExitCode::SUCCESS
