@@ -8,9 +8,10 @@ use mathlib.Core.Bool.{Bool, true, false, cond, not}
 use mathlib.Core.Option.{Option, none, some, Option·map}
 use mathlib.Core.List.{List}
 use lib.ListN.{length}
+use lib.IntN.{ℤ}
 use borrow.Author.Tests.{ne-eqb}
 use Rattle.paper.specs.Procedure.{BOOKS}
-use Rattle.paper.specs.Units.{oneTo, inRange, inSheet}
+use Rattle.paper.specs.Units.{Triple, oneTo, inRange, inSheet}
 use Rattle.paper.specs.Books as paper
 use Rattle.paper.specs.Calls.{Act, begin, strike, enter, correct, withdraw, takeBack, on, effect, affected}
 use Rattle.paper.specs.TurnedAway.{lowest, rules, refusal}
@@ -108,6 +109,11 @@ module _ (bs : List ℕ) (k : ℕ) (a : Act) (y : Bytes bs) where
       go (without u v) =
           let n : turnedAway k (s .refusal) ≡ 1 = rw (es, v) in
           (n ∙ rw (state-out bs u), eb ∙ rw n (rw (state-out bs u)))
+
+-- an act with a reading, whose numbers are those given
+pub as-given : (does : Triple → Act) (b : Book) (s : Step) (x y h x′ y′ h′ : ℤ) → x′ ≡ x → y′ ≡ y → h′ ≡ h
+    → s ≡ stepOf (does (record { x = x′; y = y′; h = h′ })) b → s ≡ stepOf (does (record { x = x; y = y; h = h })) b
+as-given does b s x y h x′ y′ h′ ex ey eh e = e ∙ rw (ex, ey, eh)
 
 -- an accepted act's register is of the right length
 pub accepted-length : (bs : List ℕ) (k : ℕ) (a : Act) (b : Book) (s : Step) → b ≡ foundOf bs k → s ≡ stepOf a b → s .refusal ≡ 0 → length bs ≡ LENGTH

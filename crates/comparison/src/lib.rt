@@ -24,10 +24,10 @@ pub fn not_compared(refusal: u64, series: u64, set: u64, quantity: u64) -> Compa
     ensures { λ r. ⌜ r ≡ notCompared refusal series set quantity ⌝ }
 {
     Compared {
-        refusal: refusal,
-        series: series,
-        set: set,
-        quantity: quantity,
+        refusal,
+        series,
+        set,
+        quantity,
         same: false,
     }
 }
@@ -83,7 +83,7 @@ fn by_sums(axis: u64, first: u64, second: u64) -> Compared
         series: 0,
         set: 0,
         quantity: 0,
-        same: same,
+        same,
     }
 }
 

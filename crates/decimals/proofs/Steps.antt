@@ -9,7 +9,7 @@ use borrow.Author.Tests.{lt-ltb, le-ltb, le-leb, lt-leb, eq-eqb, ne-eqb}
 use lib.ListN.{length, drop, getD, drop-of-length-le}
 use lib.Seq.{drop-cons}
 use lib.IntN.{ℤ, pos, negℤ}
-use Rattle.image.specs.Lengths.{word}
+use Rattle.image.specs.Lengths.{ORIGIN, word}
 use Rattle.decimals.specs.Reader.{Parsed, got, bad, then, stops, run, nonzero, below, above, number}
 use Rattle.decimals.specs.Given.{Got, Gives, Magnitude, Word}
 use Rattle.decimals.specs.declared.Read.{Read}
@@ -114,16 +114,16 @@ module _ (i : ℕ) (s : List ℕ) (p : length s ≤ i) where
 
 -- a number is handed on as its word
 module _ {s : List ℕ} {at n m i : ℕ} {p : Parsed ℕ} {q : Parsed ℤ} (h : at ≤ n) (g : Got Magnitude s n m i p) where
-  pub word-below : q ≡ then p below → Gives Word s at (At (1_000_000_000_000 - m) i) q
+  pub word-below : q ≡ then p below → Gives Word s at (At (ORIGIN - m) i) q
   unfolding word
   word-below e =
       yes-at (record { value = negℤ (pos (g .value)); reads = e ∙ then-got below (g .reads); holds = rw (g .holds .0) (under (g .value)); from = omega (arith, g .from); to = g .to })
     where
-      under : (v : ℕ) → 1_000_000_000_000 - v ≡ word (negℤ (pos v))
+      under : (v : ℕ) → ORIGIN - v ≡ word (negℤ (pos v))
       under zero = refl
       under (suc v) = refl
 
-  pub word-above : q ≡ then p above → Gives Word s at (At (m + 1_000_000_000_000) i) q
+  pub word-above : q ≡ then p above → Gives Word s at (At (m + ORIGIN) i) q
   unfolding word
   word-above e =
       yes-at (record { value = pos (g .value); reads = e ∙ then-got above (g .reads); holds = rw (g .holds .0); from = omega (arith, g .from); to = g .to })

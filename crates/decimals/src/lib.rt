@@ -3,7 +3,7 @@ ghost use Prim.Native.Nat.{_≤_};
 ghost use lib.ListN.{length, drop};
 ghost use Rattle.decimals.specs.Reader.{run, nonzero, number};
 ghost use Rattle.decimals.specs.Given.{Gives, Magnitude, Word};
-use image::ZERO;
+use image::ORIGIN;
 
 // What was read, as a number, and the place after it; or there is no such thing.
 pub enum Read {
@@ -64,16 +64,16 @@ pub fn number_at(s: &[u8], at: usize) -> Read
     let b = s[at];
     let next = at + 1;
     if b == 48 {
-        return Read::At(ZERO, next);
+        return Read::At(ORIGIN, next);
     }
     if b == 45 {
         let Read::At(m, n) = nonzero_at(s, next) else {
             return Read::Bad;
         };
-        return Read::At(ZERO - m, n);
+        return Read::At(ORIGIN - m, n);
     }
     let Read::At(m, n) = nonzero_at(s, at) else {
         return Read::Bad;
     };
-    Read::At(m + ZERO, n)
+    Read::At(m + ORIGIN, n)
 }

@@ -87,8 +87,8 @@ pub fn in_millimetres(j: Judgement) -> Evaluated
         series: j.series,
         set: j.set,
         quantity: j.quantity,
-        sheet: sheet,
-        xy: xy,
-        h: h,
+        sheet,
+        xy,
+        h,
     }
 }

@@ -36,12 +36,12 @@ pub fn not_judged(refusal: u64, series: u64, set: u64, quantity: u64) -> Judgeme
         b: 0,
     };
     Judgement {
-        refusal: refusal,
-        series: series,
-        set: set,
-        quantity: quantity,
+        refusal,
+        series,
+        set,
+        quantity,
         evaluation: Evaluation {
-            sheet: sheet,
+            sheet,
             xy: beyond,
             h: beyond,
         },
@@ -63,7 +63,7 @@ fn screened(terms: &[u64; 12], cells: &[u64; 90]) -> Judgement
         series: 0,
         set: 0,
         quantity: 0,
-        evaluation: evaluation,
+        evaluation,
     }
 }
 

@@ -1,6 +1,6 @@
 -- Figures and verdicts are the paper's.
 -- Assumes nothing.
-use Prim.Native.Nat.{ℕ, _-_, _*_, _≤_}
+use Prim.Native.Nat.{ℕ, _+_, _-_, _*_, _≤_}
 use native.Mathlib.Omega.{arith}
 use native.Mathlib.Nat.{mul-le-mul}
 use mathlib.Core.Path.{_≡_}
@@ -10,7 +10,7 @@ use Rattle.whole.specs.Greatest.{greatestOf}
 use Rattle.paper.specs.Units.{Terms, Places}
 use Rattle.paper.specs.Figures.{shown, figures}
 use Rattle.paper.specs.Verdicts.{boundXY, boundH, judgedXY, judgedH, evaluation, bothWithin}
-use Rattle.image.specs.Lengths.{len}
+use Rattle.image.specs.Lengths.{ORIGIN, len}
 use Rattle.image.proofs.Lengths.{len-pos}
 use Rattle.sums.specs.declared.Totals.{Totals}
 use Rattle.figures.specs.declared.Shown.{Shown}
@@ -34,14 +34,14 @@ module _ (s : Totals) (f : Shown) (e : f ≡ shownBy s) where
   shown-h = rw e
 
 -- the square of a stated sigma
-pub sigma² : {w : ℕ} → w ≤ 1000000010000 → (w - 1000000000000) * (w - 1000000000000) ≤ 100000000
-sigma² {w} h = let k : w - 1000000000000 ≤ 10000 = omega arith in mul-le-mul k k
+pub sigma² : {w : ℕ} → w ≤ ORIGIN + 10000 → (w - ORIGIN) * (w - ORIGIN) ≤ 100000000
+sigma² {w} h = let k : w - ORIGIN ≤ 10000 = omega arith in mul-le-mul k k
 
-pub within-by-is : (times most sum w : ℕ) → 1000000000000 ≤ w → leb (times * sum) (most * ((w - 1000000000000) * (w - 1000000000000))) ≡ withinBy times most sum (len w)
+pub within-by-is : (times most sum w : ℕ) → ORIGIN ≤ w → leb (times * sum) (most * ((w - ORIGIN) * (w - ORIGIN))) ≡ withinBy times most sum (len w)
 within-by-is times most sum w low = rw (len-pos w low)
 
-pub judged-is : (times most divisor chi sum w m b : ℕ) (t : Bool) → 1000000000000 ≤ w → t ≡ withinBy times most sum (len w) → m ≡ shown sum
-    → b ≡ greatestOf divisor ((w - 1000000000000) * (w - 1000000000000) * chi * 1048576)
+pub judged-is : (times most divisor chi sum w m b : ℕ) (t : Bool) → ORIGIN ≤ w → t ≡ withinBy times most sum (len w) → m ≡ shown sum
+    → b ≡ greatestOf divisor ((w - ORIGIN) * (w - ORIGIN) * chi * 1048576)
     → _≡_ {A = Judged} (record { within = t; m = m; b = b }) (judgedIn (judgedBy times most divisor chi sum (len w)))
 unfolding judgedBy
 judged-is times most divisor chi sum w m b t low et em eb = rw (et, em, eb, len-pos w low)

@@ -1,14 +1,14 @@
 // The figures of a full book in form, and the verdicts on them, in whole numbers, from its sums.
 ghost use mathlib.Core.Path.{_≡_};
-ghost use Prim.Native.Nat.{_≤_, _<_};
+ghost use Prim.Native.Nat.{_+_, _≤_, _<_};
 ghost use Rattle.paper.specs.Figures.{shown};
 ghost use Rattle.paper.specs.Verdicts.{evaluation, bothWithin};
-ghost use Rattle.image.specs.Lengths.{len, termsOf};
+ghost use Rattle.image.specs.Lengths.{ORIGIN, len, termsOf};
 ghost use Rattle.image.specs.Places.{placesOf};
 ghost use Rattle.image.specs.Ready.{Ready, Between};
 ghost use Rattle.sums.specs.Sums.{Modest, AllModest};
 ghost use Rattle.figures.specs.Judging.{judgedIn, evaluationIn, shownBy, withinBy, judgedBy, Held, SheetHeld, VerdictHeld, AllHeld};
-use image::ZERO;
+use image::ORIGIN;
 use procedure::Procedure;
 use sums::Totals;
 
@@ -76,10 +76,10 @@ pub struct Judged {
 
 // Whether times · sum <= most · sigma². Sigma is a word.
 fn within_by(times: u64, most: u64, sum: u64, sigma: u64) -> bool
-    requires { ⌜ (times ≤ 40) × (most ≤ 22341) × Modest sum × Between 1000000000001 1000000010000 sigma ⌝ }
+    requires { ⌜ (times ≤ 40) × (most ≤ 22341) × Modest sum × Between (ORIGIN + 1) (ORIGIN + 10000) sigma ⌝ }
     ensures { λ r. ⌜ r ≡ withinBy times most sum (len sigma) ⌝ }
 {
-    let s = sigma - ZERO;
+    let s = sigma - ORIGIN;
     let tested = times * sum;
     let limit = most * (s * s);
     tested <= limit
@@ -87,17 +87,13 @@ fn within_by(times: u64, most: u64, sum: u64, sigma: u64) -> bool
 
 // The verdict on a sum of which m is shown: within by that test; b is the greatest with b² · divisor <= sigma² · chi · 1,048,576.
 fn judged_by(times: u64, most: u64, divisor: u64, chi: u64, sum: u64, m: u64, sigma: u64) -> Judged
-    requires { ⌜ (times ≤ 40) × (most ≤ 22341) × (0 < divisor) × (chi ≤ 7447) × Modest sum × (m ≡ shown sum) × Held m × Between 1000000000001 1000000010000 sigma ⌝ }
+    requires { ⌜ (times ≤ 40) × (most ≤ 22341) × (0 < divisor) × (chi ≤ 7447) × Modest sum × (m ≡ shown sum) × Held m × Between (ORIGIN + 1) (ORIGIN + 10000) sigma ⌝ }
     ensures { λ r. ⌜ (r ≡ judgedIn (judgedBy times most divisor chi sum (len sigma))) × VerdictHeld r ⌝ }
 {
     let within = within_by(times, most, sum, sigma);
-    let s = sigma - ZERO;
+    let s = sigma - ORIGIN;
     let b = whole::greatest(divisor, s * s * chi * 1048576);
-    Judged {
-        within: within,
-        m: m,
-        b: b,
-    }
+    Judged { within, m, b }
 }
 
 // The sheet and both verdicts, in whole numbers.
@@ -132,11 +128,7 @@ pub fn evaluate(terms: &[u64; 12], cells: &[u64; 90]) -> Evaluation
         sheet.sh,
         terms[SIGMA_H],
     );
-    Evaluation {
-        sheet: sheet,
-        xy: xy,
-        h: h,
-    }
+    Evaluation { sheet, xy, h }
 }
 
 // Whether both are within, by the sums alone: no figure and no bound is worked out.

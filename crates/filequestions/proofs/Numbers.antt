@@ -1,6 +1,6 @@
 -- The numbers that a report prints are small, and its text is that of the whole-number record.
 -- Assumes nothing.
-use Prim.Native.Nat.{ℕ, zero, suc, _<_}
+use Prim.Native.Nat.{ℕ, zero, suc}
 use native.Mathlib.Omega.{arith}
 use mathlib.Core.Path.{_≡_, refl, subst}
 use mathlib.Core.Bool.{Bool, true, false, cond, not, _&&_}
@@ -117,7 +117,7 @@ file-prints c = go (alone.refusedFile c) (file-small c)
 -- ---- its text
 
 module _ (a : Answer) (p : Prints a) where
-  pub refusal-fits : a .refused < 1000000000000
+  pub refusal-fits : given.Fits (a .refused)
   refusal-fits = omega (arith, ltb-true (a .refused) 15 (p .refused))
 
   three : (small (a .suspect .series) ≡ true) × (small (a .suspect .set) ≡ true) × (small (a .suspect .quantity) ≡ true)
@@ -128,7 +128,7 @@ module _ (a : Answer) (p : Prints a) where
       let e = and-left (x && y) z (p .suspect) in
       (and-left x y e, and-right x y e, and-right (x && y) z (p .suspect))
 
-  pub suspect-fits : (a .suspect .series < 1000000000000) × (a .suspect .set < 1000000000000) × (a .suspect .quantity < 1000000000000)
+  pub suspect-fits : given.Fits (a .suspect .series) × given.Fits (a .suspect .set) × given.Fits (a .suspect .quantity)
   suspect-fits = (
     omega (arith, ltb-true (a .suspect .series) 15 (three .0)),
     omega (arith, ltb-true (a .suspect .set) 15 (three .1)),

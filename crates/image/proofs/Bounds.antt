@@ -1,8 +1,8 @@
 -- The numbers of a book in form are lengths, so its words mean it again; and each of its words is below 2^64.
 -- Assumes nothing.
-use Prim.Native.Nat.{ℕ, zero, suc, _+_, _*_, _^_, _≤_, _<_}
+use Prim.Native.Nat.{ℕ, zero, suc, _*_, _^_, _≤_, _<_}
 use native.Mathlib.Omega.{arith}
-use mathlib.Core.Path.{_≡_, refl, ap, _∙_, subst}
+use mathlib.Core.Path.{_≡_, refl, subst}
 use mathlib.Core.Bool.{Bool, true, false, _&&_}
 use mathlib.Core.Option.{none, some}
 use mathlib.Core.List.{List, [], _∷_, _++_, append-nil}
@@ -11,12 +11,11 @@ use lib.Dec.{leb, eqb}
 use lib.IntN.{ℤ, pos, negsuc, natAbs, _-ℤ_}
 use borrow.Author.Tests.{leb-true, lt-leb}
 use Rattle.integers.specs.Diff.{abs-minus}
-use Rattle.paper.specs.Procedure.{PLACES}
 use Rattle.paper.specs.Units.{Triple, Terms, from1To, upTo, onEarth, within, inRange, approximate, near, pointOf, nearAt, allNear, Spot, Places}
 use Rattle.paper.specs.Books.{Change, make}
 use Rattle.paper.proofs.Tests.{and-left, and-right}
-use Rattle.paper.proofs.Form.{Fits, AllFit}
-use Rattle.image.specs.Lengths.{len, word, wordOr, triple, tripleWords, termsOf, termWords, termWordsOr, tripleAt}
+use Rattle.paper.proofs.Form.{AllFit}
+use Rattle.image.specs.Lengths.{ORIGIN, len, word, wordOr, triple, tripleWords, termsOf, termWords, termWordsOr, tripleAt}
 use Rattle.image.specs.Places.{allZero, spotOf, spotWords, cellsOf}
 use Rattle.image.specs.Changes.{changeWords, changesOf}
 use Rattle.image.proofs.Lengths.{len-word, word-small, len-bound, of-word, wordOr-word}
@@ -123,7 +122,7 @@ earth-point t k e = go (eqb k 1)
     go true = on-earth (t .point1) (ranged t e .point1)
     go false = on-earth (t .point2) (ranged t e .point2)
 
-near-bound : (x X : ℤ) → upTo 100000 (x -ℤ X) ≡ true → natAbs X ≤ 100000000000 → natAbs x < 1000000000000
+near-bound : (x X : ℤ) → upTo 100000 (x -ℤ X) ≡ true → natAbs X ≤ 100000000000 → natAbs x < ORIGIN
 near-bound x X e h = omega (arith, up-le 100000 (x -ℤ X) e, abs-minus x X)
 
 within-short : (p v : Triple) → OnEarth p → within 100000 p v ≡ true → Short (some v)
@@ -155,7 +154,7 @@ kept-short t l (c ∷ cs) r f = (spot-short t (c .place) (c .put) r (f .0 .close
 
 -- ---- a number of any size is near its point exactly where its word is
 
-far-off : (X z : ℤ) → natAbs X ≤ 100000000000 → 1000000000000 ≤ natAbs z → upTo 100000 (z -ℤ X) ≡ false
+far-off : (X z : ℤ) → natAbs X ≤ 100000000000 → ORIGIN ≤ natAbs z → upTo 100000 (z -ℤ X) ≡ false
 far-off X z h k = lt-leb (natAbs (z -ℤ X)) 100000 (omega (arith, abs-minus z X))
 
 pub near-words : (t : Terms) (k : ℕ) (x y h : ℤ) → inRange t ≡ true → near t k (triple (wordOr x) (wordOr y) (wordOr h)) ≡ near t k (record { x = x; y = y; h = h })
@@ -175,22 +174,22 @@ words-of x y h f = rw (wordOr-word x (f .0), wordOr-word y (f .1), wordOr-word h
 
 -- ---- terms of any size are in range exactly where their words are, and then the words mean them
 
-one-far : (n : ℕ) (z : ℤ) → n < 1000000000000 → 1000000000000 ≤ natAbs z → from1To n z ≡ false
+one-far : (n : ℕ) (z : ℤ) → n < ORIGIN → ORIGIN ≤ natAbs z → from1To n z ≡ false
 one-far n (pos k) h g = and-no (leb 1 k) (leb k n) (lt-leb k n (omega arith))
 one-far n (negsuc k) h g = refl
 
-up-far : (n : ℕ) (z : ℤ) → n < 1000000000000 → 1000000000000 ≤ natAbs z → upTo n z ≡ false
+up-far : (n : ℕ) (z : ℤ) → n < ORIGIN → ORIGIN ≤ natAbs z → upTo n z ≡ false
 up-far n z h g = lt-leb (natAbs z) n (omega arith)
 
-one-given : (n : ℕ) → n < 1000000000000 → (z : ℤ) → from1To n (len (wordOr z)) ≡ from1To n z
+one-given : (n : ℕ) → n < ORIGIN → (z : ℤ) → from1To n (len (wordOr z)) ≡ from1To n z
 one-given n h z = of-word (from1To n) false (λ y. one-far n y h) z
 
-up-given : (n : ℕ) → n < 1000000000000 → (z : ℤ) → upTo n (len (wordOr z)) ≡ upTo n z
+up-given : (n : ℕ) → n < ORIGIN → (z : ℤ) → upTo n (len (wordOr z)) ≡ upTo n z
 up-given n h z = of-word (upTo n) false (λ y. up-far n y h) z
 
 earth-given : (p : Triple) → onEarth (triple (wordOr (p .x)) (wordOr (p .y)) (wordOr (p .h))) ≡ onEarth p
 unfolding onEarth
-earth-given p = let h : 100000000000 < 1000000000000 = omega arith in rw (up-given 100000000000 h (p .x), up-given 100000000000 h (p .y), up-given 100000000000 h (p .h))
+earth-given p = let h : 100000000000 < ORIGIN = omega arith in rw (up-given 100000000000 h (p .x), up-given 100000000000 h (p .y), up-given 100000000000 h (p .h))
 
 len-given : (z : ℤ) → natAbs z ≤ 100000000000 → len (wordOr z) ≡ z
 len-given z h = rw (wordOr-word z (omega arith)) (len-word z (omega arith))
@@ -250,10 +249,10 @@ pub small-cons : (w : ℕ) (l : List ℕ) → w < 2 ^ 64 → Small l → Small (
 small-cons w l h k zero = h
 small-cons w l h k (suc i) = k i
 
-small-length : (z : ℤ) (n : ℕ) (l : List ℕ) → natAbs z ≤ n → n ≤ 1000000000000 → Small l → Small (word z ∷ l)
+small-length : (z : ℤ) (n : ℕ) (l : List ℕ) → natAbs z ≤ n → n ≤ ORIGIN → Small l → Small (word z ∷ l)
 small-length z n l h k s = small-cons (word z) l (word-small z (omega arith)) s
 
-small-triple : (p : Triple) (l : List ℕ) (n : ℕ) → n ≤ 1000000000000 → natAbs (p .x) ≤ n → natAbs (p .y) ≤ n → natAbs (p .h) ≤ n → Small l → Small (tripleWords p ++ l)
+small-triple : (p : Triple) (l : List ℕ) (n : ℕ) → n ≤ ORIGIN → natAbs (p .x) ≤ n → natAbs (p .y) ≤ n → natAbs (p .h) ≤ n → Small l → Small (tripleWords p ++ l)
 unfolding tripleWords
 small-triple p l n m a b c s = small-length (p .x) n (word (p .y) ∷ word (p .h) ∷ l) a m (small-length (p .y) n (word (p .h) ∷ l) b m (small-length (p .h) n l c m s))
 
@@ -283,7 +282,7 @@ small-terms t e =
 small-spot : (v : Spot) (l : List ℕ) → Short v → Small l → Small (spotWords v ++ l)
 unfolding Short spotWords
 small-spot none l f k = small-cons 0 (0 ∷ 0 ∷ l) (omega arith) (small-cons 0 (0 ∷ l) (omega arith) (small-cons 0 l (omega arith) k))
-small-spot (some r) l f k = small-triple r l 1000000000000 (omega arith) (omega (arith, f .0)) (omega (arith, f .1)) (omega (arith, f .2)) k
+small-spot (some r) l f k = small-triple r l ORIGIN (omega arith) (omega (arith, f .0)) (omega (arith, f .1)) (omega (arith, f .2)) k
 
 pub small-cells : (l : Places) → AllShort l → Small (cellsOf l)
 unfolding cellsOf AllShort
@@ -306,7 +305,7 @@ small-changes (suc n) t l (c ∷ cs) r f =
     (small-spot (c .put) (changesOf n cs) (spot-short t (c .place) (c .put) r (f .0 .close)) (small-changes n t (make c l) cs r (f .1)))
 
 -- the words of a place that holds a reading near its point
-pub full-bound : (x y h : ℕ) → allZero x y h ≡ false → Short (spotOf x y h) → (x < 2000000000000) × (y < 2000000000000) × (h < 2000000000000)
+pub full-bound : (x y h : ℕ) → allZero x y h ≡ false → Short (spotOf x y h) → (x < 2 * ORIGIN) × (y < 2 * ORIGIN) × (h < 2 * ORIGIN)
 unfolding spotOf Short
 full-bound x y h e f =
     let g : Short (some (triple x y h)) = rw e at f in

@@ -3,20 +3,19 @@
 use Prim.Native.Nat.{ℕ, zero, suc, _+_, _-_, _*_, _^_, _≤_, _<_}
 use native.Mathlib.Omega.{arith}
 use mathlib.Core.Path.{_≡_, refl, sym, ap, _∙_}
-use mathlib.Core.Logic.{_⊎_, ⊎-elim}
-use mathlib.Core.List.{List, [], _∷_, _++_}
+use mathlib.Core.Logic.{⊎-elim}
+use mathlib.Core.List.{List, [], _∷_}
 use lib.ListN.{length, getD}
-use lib.Dec.{leb}
 use lib.IntN.{ℤ, pos, negsuc, natAbs, _-ℤ_, subℕ}
 use mir.Syntax.{w64}
 use mir.Val.{toZ, ofZ, SFits}
 use mir.ValLaws.{toZ-ofZ}
-use borrow.Author.Tests.{lt-ltb, le-ltb, lt-leb}
+use borrow.Author.Tests.{lt-ltb, le-ltb}
 use Rattle.integers.specs.Ring.{minus-minus}
-use Rattle.integers.specs.Diff.{bias, bias-back, bias-le, minus-sub, sub-ge, sub-lt, sub-eq, abs-minus, ≤-or-<}
-use Rattle.paper.specs.Units.{Triple, Terms, approximate, upTo}
+use Rattle.integers.specs.Diff.{bias-back, bias-le, minus-sub, sub-ge, sub-lt, sub-eq, ≤-or-<}
+use Rattle.paper.specs.Units.{Terms, approximate}
 use Rattle.paper.specs.Figures.{along}
-use Rattle.image.specs.Lengths.{len, word, wordOr, triple, tripleAt, tripleWords, termsOf, termWords, termWordsOr}
+use Rattle.image.specs.Lengths.{ORIGIN, len, word, wordOr, tripleAt, tripleWords, termsOf, termWords, termWordsOr}
 use Rattle.image.specs.Places.{axisOf}
 
 -- ---- both ways
@@ -25,48 +24,48 @@ pub word-len : (w : ℕ) → word (len w) ≡ w
 unfolding word len
 word-len w =
     ⊎-elim
-    (λ (h : 1000000000000 ≤ w). rw (sub-ge w 1000000000000 h) (omega arith))
-    (λ (h : w < 1000000000000). rw (sub-lt w 1000000000000 h) (omega arith))
-    (≤-or-< w 1000000000000)
+    (λ (h : ORIGIN ≤ w). rw (sub-ge w ORIGIN h) (omega arith))
+    (λ (h : w < ORIGIN). rw (sub-lt w ORIGIN h) (omega arith))
+    (≤-or-< w ORIGIN)
 
-pub len-word : (z : ℤ) → natAbs z ≤ 1000000000000 → len (word z) ≡ z
+pub len-word : (z : ℤ) → natAbs z ≤ ORIGIN → len (word z) ≡ z
 unfolding word len
-len-word z h = sym (bias-back 1000000000000 z h)
+len-word z h = sym (bias-back ORIGIN z h)
 
-pub word-not-zero : (z : ℤ) → natAbs z < 1000000000000 → word z ≡ 0 → ⊥
+pub word-not-zero : (z : ℤ) → natAbs z < ORIGIN → word z ≡ 0 → ⊥
 unfolding word
 word-not-zero (pos n) h e = omega arith
 word-not-zero (negsuc n) h e = omega arith
 
-pub word-small : (z : ℤ) → natAbs z ≤ 1000000000000 → word z < 2 ^ 64
+pub word-small : (z : ℤ) → natAbs z ≤ ORIGIN → word z < 2 ^ 64
 unfolding word
-word-small z h = omega (arith, bias-le 1000000000000 1000000000000 z h)
+word-small z h = omega (arith, bias-le ORIGIN ORIGIN z h)
 
 -- a word whose length is short is below 2·10^12
-pub len-bound : (w : ℕ) → natAbs (len w) < 1000000000000 → w < 2000000000000
+pub len-bound : (w : ℕ) → natAbs (len w) < ORIGIN → w < 2 * ORIGIN
 unfolding word
-len-bound w h = omega (arith, word-len w, bias-le 1000000000000 999999999999 (len w) (omega arith))
+len-bound w h = omega (arith, word-len w, bias-le ORIGIN 999999999999 (len w) (omega arith))
 
 -- ---- a number of any size
 
-pub wordOr-word : (x : ℤ) → natAbs x < 1000000000000 → wordOr x ≡ word x
+pub wordOr-word : (x : ℤ) → natAbs x < ORIGIN → wordOr x ≡ word x
 unfolding wordOr
 wordOr-word x h = rw (lt-ltb _ _ h)
 
-pub wordOr-far : (x : ℤ) → 1000000000000 ≤ natAbs x → wordOr x ≡ 0
+pub wordOr-far : (x : ℤ) → ORIGIN ≤ natAbs x → wordOr x ≡ 0
 unfolding wordOr
 wordOr-far x h = rw (le-ltb _ _ h)
 
 -- a test that no number of 10^12 or more passes is the same of a number and of its word
-pub of-word : {A : Type 0} (f : ℤ → A) (nil : A) → ((z : ℤ) → 1000000000000 ≤ natAbs z → f z ≡ nil) → (x : ℤ) → f (len (wordOr x)) ≡ f x
+pub of-word : {A : Type 0} (f : ℤ → A) (nil : A) → ((z : ℤ) → ORIGIN ≤ natAbs z → f z ≡ nil) → (x : ℤ) → f (len (wordOr x)) ≡ f x
 unfolding len
 of-word f nil far x =
     ⊎-elim
-    (λ (k : 1000000000000 ≤ natAbs x). rw (wordOr-far x k) (far (len 0) (omega (arith, zero-len)) ∙ sym (far x k)))
-    (λ (k : natAbs x < 1000000000000). rw (wordOr-word x k, len-word x (omega arith)))
-    (≤-or-< (natAbs x) 1000000000000)
+    (λ (k : ORIGIN ≤ natAbs x). rw (wordOr-far x k) (far (len 0) (omega (arith, zero-len)) ∙ sym (far x k)))
+    (λ (k : natAbs x < ORIGIN). rw (wordOr-word x k, len-word x (omega arith)))
+    (≤-or-< (natAbs x) ORIGIN)
   where
-    zero-len : natAbs (len 0) ≡ 1000000000000
+    zero-len : natAbs (len 0) ≡ ORIGIN
     zero-len = refl
 
 -- ---- differences
@@ -74,21 +73,21 @@ of-word f nil far x =
 pub len-minus : (a b : ℕ) → len a -ℤ len b ≡ subℕ a b
 unfolding len
 len-minus a b =
-    rw (← minus-sub a 1000000000000, ← minus-sub b 1000000000000)
-    (minus-minus (pos a) (pos b) (pos 1000000000000) ∙ minus-sub a b)
+    rw (← minus-sub a ORIGIN, ← minus-sub b ORIGIN)
+    (minus-minus (pos a) (pos b) (pos ORIGIN) ∙ minus-sub a b)
 
-pub len-up : (n : ℕ) → len (n + 1000000000000) ≡ pos n
+pub len-up : (n : ℕ) → len (n + ORIGIN) ≡ pos n
 unfolding len
-len-up n = sub-ge (n + 1000000000000) 1000000000000 (omega arith) ∙ ap pos (omega arith)
+len-up n = sub-ge (n + ORIGIN) ORIGIN (omega arith) ∙ ap pos (omega arith)
 
-pub len-pos : (w : ℕ) → 1000000000000 ≤ w → len w ≡ pos (w - 1000000000000)
+pub len-pos : (w : ℕ) → ORIGIN ≤ w → len w ≡ pos (w - ORIGIN)
 unfolding len
-len-pos w h = sub-ge w 1000000000000 h
+len-pos w h = sub-ge w ORIGIN h
 
 -- a difference of two lengths is the length of a word
-pub len-difference : (a b : ℕ) → b ≤ a + 1000000000000 → len (a + 1000000000000 - b) ≡ len a -ℤ len b
+pub len-difference : (a b : ℕ) → b ≤ a + ORIGIN → len (a + ORIGIN - b) ≡ len a -ℤ len b
 unfolding len
-len-difference a b h = sub-eq (a + 1000000000000 - b) 1000000000000 a b (omega arith) ∙ sym (len-minus a b)
+len-difference a b h = sub-eq (a + ORIGIN - b) ORIGIN a b (omega arith) ∙ sym (len-minus a b)
 
 -- an offset, kept as a number from 0 to 200,000
 pub len-offset : (z Z : ℕ) → Z ≤ z + 100000 → len z -ℤ len Z ≡ pos (z + 100000 - Z) -ℤ pos 100000

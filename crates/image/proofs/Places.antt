@@ -1,21 +1,21 @@
 -- Laws of places and their words.
 -- Assumes nothing.
-use Prim.Native.Nat.{ℕ, zero, suc, _+_, _-_, _*_, _≤_, _<_}
+use Prim.Native.Nat.{ℕ, zero, suc, _+_, _*_, _≤_, _<_}
 use native.Mathlib.Omega.{arith}
 use mathlib.Core.Path.{_≡_, refl, sym, ap, _∙_}
 use mathlib.Core.Bool.{Bool, true, false, cond, _&&_}
 use mathlib.Core.Option.{none, some}
 use mathlib.Core.List.{List, [], _∷_, _++_}
-use lib.ListN.{length, getD, set, take, drop, length-append, length-drop}
+use lib.ListN.{length, getD, set, drop, length-append, length-drop}
 use lib.Seq.{getD-drop}
 use lib.Dec.{eqb}
 use lib.IntN.{natAbs}
 use borrow.Author.Tests.{ne-eqb, eqb-true}
 use Rattle.words.specs.Paste.{pasted}
 use Rattle.paper.specs.Procedure.{PLACES}
-use Rattle.paper.specs.Units.{Place, inSheet, number, Triple, Spot, Places, isEmpty}
+use Rattle.paper.specs.Units.{Place, inSheet, number, Spot, Places, isEmpty}
 use Rattle.paper.proofs.Tests.{below}
-use Rattle.image.specs.Lengths.{len, word, triple, tripleWords}
+use Rattle.image.specs.Lengths.{ORIGIN, word, triple, tripleWords}
 use Rattle.image.specs.Places.{allZero, spotOf, spotAt, spots, placesOf, spotWords, cellsOf, placeOf}
 use Rattle.image.proofs.Lengths.{word-len, len-word, word-not-zero}
 
@@ -42,7 +42,7 @@ words-spot x y h = go (eqb x 0) (eqb y 0) (eqb h 0) refl refl refl
 -- a reading whose numbers are lengths; the three words of its place are then not all 0
 unfoldable pub Short : Spot → Type 0
 Short none = Unit {0}
-Short (some v) = (natAbs (v .x) < 1000000000000) × (natAbs (v .y) < 1000000000000) × (natAbs (v .h) < 1000000000000)
+Short (some v) = (natAbs (v .x) < ORIGIN) × (natAbs (v .y) < ORIGIN) × (natAbs (v .h) < ORIGIN)
 
 pub spot-words : (v : Spot) (l : List ℕ) → Short v → spotAt (spotWords v ++ l) 0 ≡ v
 unfolding Short spotOf spotWords tripleWords

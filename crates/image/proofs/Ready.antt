@@ -1,15 +1,13 @@
 -- The offsets of a full book in form, as the code keeps them.
 -- Assumes nothing.
-use Prim.Native.Nat.{ℕ, zero, suc, _+_, _-_, _*_, _%_, _≤_, _<_}
+use Prim.Native.Nat.{ℕ, _+_, _-_, _*_, _%_, _≤_, _<_}
 use native.Mathlib.Omega.{arith}
-use mathlib.Core.Path.{_≡_, refl, sym, ap, _∙_, subst}
+use mathlib.Core.Path.{_≡_, subst}
 use mathlib.Core.List.{List}
 use lib.ListN.{getD}
-use lib.IntN.{ℤ, pos, natAbs, _-ℤ_, subℕ}
-use Rattle.integers.specs.Sigma.{ΣN}
-use Rattle.paper.specs.Units.{Triple, Terms, approximate, Places, reading}
-use Rattle.paper.specs.Figures.{Axis, along, offset, Q}
-use Rattle.image.specs.Lengths.{len, tripleAt, termsOf}
+use lib.IntN.{pos, _-ℤ_}
+use Rattle.paper.specs.Figures.{offset}
+use Rattle.image.specs.Lengths.{termsOf}
 use Rattle.image.specs.Places.{placesOf, axisOf}
 use Rattle.image.proofs.Lengths.{along-at, point-at, len-offset}
 use Rattle.image.specs.Ready.{Ready}

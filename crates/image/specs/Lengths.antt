@@ -8,17 +8,21 @@ use lib.IntN.{ℤ, natAbs, subℕ}
 use Rattle.integers.specs.Diff.{bias}
 use Rattle.paper.specs.Units.{Triple, Terms}
 
+-- the word of the length 0
+abbrev pub ORIGIN : ℕ
+ORIGIN = 1000000000000
+
 -- the length that a word stands for
 unfoldable pub len : ℕ → ℤ
-len w = subℕ w 1000000000000
+len w = subℕ w ORIGIN
 
 -- the word of a length
 unfoldable pub word : ℤ → ℕ
-word z = bias 1000000000000 z
+word z = bias ORIGIN z
 
 -- the word of a number of any size: 0 where it is no length
 unfoldable pub wordOr : ℤ → ℕ
-wordOr z = cond (ltb (natAbs z) 1000000000000) (word z) 0
+wordOr z = cond (ltb (natAbs z) ORIGIN) (word z) 0
 
 -- ---- x, y, h together
 

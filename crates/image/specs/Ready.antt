@@ -4,7 +4,7 @@ use mathlib.Core.Path.{_≡_}
 use mathlib.Core.List.{List}
 use lib.ListN.{getD}
 use Rattle.paper.specs.Units.{reading}
-use Rattle.image.specs.Lengths.{tripleAt}
+use Rattle.image.specs.Lengths.{ORIGIN, tripleAt}
 use Rattle.image.specs.Places.{placesOf}
 
 abbrev pub Between : ℕ → ℕ → ℕ → Type 0
@@ -13,8 +13,8 @@ Between lo hi w = (lo ≤ w) × (w ≤ hi)
 pub record Ready (t l : List ℕ) : Type 0 where
   pub reads : (p : ℕ) → p < 30 → reading (placesOf l) p ≡ tripleAt l (p * 3)
   pub near : (p a : ℕ) → p < 30 → a < 3 → (getD l (p * 3 + a) 0 ≤ getD t (6 + p % 2 * 3 + a) 0 + 100000) × (getD t (6 + p % 2 * 3 + a) 0 ≤ getD l (p * 3 + a) 0 + 100000)
-  pub points : (a : ℕ) → a < 6 → getD t (6 + a) 0 ≤ 1100000000000
+  pub points : (a : ℕ) → a < 6 → getD t (6 + a) 0 ≤ ORIGIN + 100000000000
   pub apart : (a : ℕ) → a < 3 → (getD t (9 + a) 0 ≤ getD t (6 + a) 0 + 500000) × (getD t (6 + a) 0 ≤ getD t (9 + a) 0 + 500000)
-  pub distance : Between 1000000000001 1000000500000 (getD t 0 0)
+  pub distance : Between (ORIGIN + 1) (ORIGIN + 500000) (getD t 0 0)
   pub height : Between 999999500000 1000000500000 (getD t 1 0)
-  pub scales : (i : ℕ) → 2 ≤ i → i < 6 → Between 1000000000001 1000000010000 (getD t i 0)
+  pub scales : (i : ℕ) → 2 ≤ i → i < 6 → Between (ORIGIN + 1) (ORIGIN + 10000) (getD t i 0)

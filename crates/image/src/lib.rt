@@ -1,15 +1,15 @@
 // Numbers of any size to what the words of a book hold, and back.
 ghost use mathlib.Core.Path.{_≡_};
-ghost use Prim.Native.Nat.{_<_};
-ghost use Rattle.image.specs.Lengths.{len, wordOr, termWordsOr, termsGiven};
+ghost use Prim.Native.Nat.{_*_, _<_};
+ghost use Rattle.image.specs.Lengths.{ORIGIN, len, wordOr, termWordsOr, termsGiven};
 ghost use Rattle.image.specs.Places.{placeOf};
 use procedure::Procedure;
 
 // The word of the length 0.
-pub const ZERO: u64 = 1000000000000;
+pub const ORIGIN: u64 = 1000000000000;
 
 // The same, with a sign.
-const SHIFT: i64 = ZERO as i64;
+const SHIFT: i64 = ORIGIN as i64;
 
 // The word of a length; 0 for a number that is no length.
 pub fn word_of(x: i64) -> u64
@@ -59,7 +59,7 @@ pub fn terms_of(
 
 // The length of a word.
 pub fn length_of(w: u64) -> i64
-    requires { ⌜ w < 2000000000000 ⌝ }
+    requires { ⌜ w < 2 * ORIGIN ⌝ }
     ensures { λ r. ⌜ r ≡ len w ⌝ }
 {
     (w as i64) - SHIFT

@@ -1,6 +1,5 @@
 // The lent bytes of a register: its form, one book found, and one put back.
 ghost use mathlib.Core.Path.{_≡_};
-ghost use Prim.Native.Nat.{_*_, _-_, _<_};
 ghost use lib.ListN.{length};
 ghost use Rattle.paper.specs.Procedure.{BOOKS};
 ghost use Rattle.paper.specs.Units.{oneTo};

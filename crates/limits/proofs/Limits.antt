@@ -13,7 +13,7 @@ use Rattle.integers.specs.Diff.{sub-ge, sub-lt, ≤-or-<, minus-sub}
 use Rattle.whole.specs.Greatest.{Greatest, greatestOf, greatestOf-greatest}
 use Rattle.whole.specs.Nearest.{nearestOf}
 use Rattle.paper.specs.Screening.{square, passes}
-use Rattle.image.specs.Lengths.{len}
+use Rattle.image.specs.Lengths.{ORIGIN, len}
 use Rattle.image.proofs.Lengths.{len-minus, len-pos}
 use Rattle.limits.specs.Most.{mostPassing}
 
@@ -37,7 +37,7 @@ numbers-apart a b = ap natAbs (minus-sub a b) ∙ gap a b
 
 -- ---- the limit
 
-pub limit-is : (s : ℕ) → 1000000000000 ≤ s → 25 * ((s - 1000000000000) * (s - 1000000000000)) ≡ 25 * square (len s)
+pub limit-is : (s : ℕ) → ORIGIN ≤ s → 25 * ((s - ORIGIN) * (s - ORIGIN)) ≡ 25 * square (len s)
 limit-is s low = rw (len-pos s low)
 
 less-not : (a b : ℕ) → ltb a b ≡ not (leb b a)

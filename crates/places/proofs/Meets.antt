@@ -4,7 +4,7 @@ use Prim.Native.Nat.{ℕ, zero, suc, _+_, _-_, _*_, _%_, _≤_, _<_}
 use native.Mathlib.Omega.{arith}
 use native.Mathlib.Nat.{zero-add}
 use mathlib.Core.Path.{_≡_, refl, sym, ap, _∙_, subst}
-use mathlib.Core.Logic.{_⊎_, ⊎-elim}
+use mathlib.Core.Logic.{⊎-elim}
 use mathlib.Core.Bool.{Bool, true, false, _&&_, _||_}
 use mathlib.Core.Option.{none}
 use mathlib.Core.List.{List, [], _∷_}
@@ -17,7 +17,7 @@ use Rattle.paper.specs.Units.{from1To, upTo, onEarth, within, inRange, isEmpty,
 use Rattle.paper.specs.TurnedAway.{some?}
 use Rattle.paper.proofs.Tests.{and-left, and-right, among}
 use Rattle.paper.proofs.History.{near-at}
-use Rattle.image.specs.Lengths.{len, tripleAt, termsOf}
+use Rattle.image.specs.Lengths.{ORIGIN, len, tripleAt, termsOf}
 use Rattle.image.specs.Places.{allZero, spotOf, spotAt, placesOf}
 use Rattle.image.specs.Ready.{Ready, Between}
 use Rattle.image.proofs.Lengths.{len-minus}
@@ -40,17 +40,17 @@ split6 a b c d x y e =
 up-range : (n a b : ℕ) → upTo n (len b -ℤ len a) ≡ true → (b ≤ a + n) × (a ≤ b + n)
 up-range n a b e = abs-sub-range b a n (rw (len-minus b a) at (leb-true (natAbs (len b -ℤ len a)) n e))
 
-up-zero : (n w : ℕ) → upTo n (len w) ≡ true → (w ≤ 1000000000000 + n) × (1000000000000 ≤ w + n)
+up-zero : (n w : ℕ) → upTo n (len w) ≡ true → (w ≤ ORIGIN + n) × (ORIGIN ≤ w + n)
 unfolding len
-up-zero n w e = abs-sub-range w 1000000000000 n (leb-true (natAbs (len w)) n e)
+up-zero n w e = abs-sub-range w ORIGIN n (leb-true (natAbs (len w)) n e)
 
-one-range : (n w : ℕ) → from1To n (len w) ≡ true → (1000000000001 ≤ w) × (w ≤ 1000000000000 + n)
+one-range : (n w : ℕ) → from1To n (len w) ≡ true → (ORIGIN < w) × (w ≤ ORIGIN + n)
 unfolding len
 one-range n w e =
     ⊎-elim
-    (λ (h : 1000000000000 ≤ w). let k = among n (w - 1000000000000) (rw (sub-ge w 1000000000000 h) at e) in (omega arith, omega arith))
-    (λ (h : w < 1000000000000). let k : false ≡ true = rw (sub-lt w 1000000000000 h) at e in let z : _≡_ {A = ℕ} 0 1 = cc in absurd (omega arith))
-    (≤-or-< w 1000000000000)
+    (λ (h : ORIGIN ≤ w). let k = among n (w - ORIGIN) (rw (sub-ge w ORIGIN h) at e) in (omega arith, omega arith))
+    (λ (h : w < ORIGIN). let k : false ≡ true = rw (sub-lt w ORIGIN h) at e in let z : _≡_ {A = ℕ} 0 1 = cc in absurd (omega arith))
+    (≤-or-< w ORIGIN)
 
 within-at : (n : ℕ) (t l : List ℕ) (k m a : ℕ) → within n (tripleAt t k) (tripleAt l m) ≡ true → a < 3 → (getD l (m + a) 0 ≤ getD t (k + a) 0 + n) × (getD t (k + a) 0 ≤ getD l (m + a) 0 + n)
 unfolding within tripleAt
@@ -71,7 +71,7 @@ within-at n t l k m a e h = go a h
     go (suc (suc zero)) h = up-range n (getD t (k + 2) 0) (getD l (m + 2) 0) (three .2)
     go (suc (suc (suc a))) h = absurd (omega arith)
 
-earth-at : (t : List ℕ) (k a : ℕ) → onEarth (tripleAt t k) ≡ true → a < 3 → getD t (k + a) 0 ≤ 1100000000000
+earth-at : (t : List ℕ) (k a : ℕ) → onEarth (tripleAt t k) ≡ true → a < 3 → getD t (k + a) 0 ≤ ORIGIN + 100000000000
 unfolding onEarth tripleAt
 earth-at t k a e h = go a h
   where
@@ -81,7 +81,7 @@ earth-at t k a e h = go a h
     three : (ok k ≡ true) × (ok (k + 1) ≡ true) × (ok (k + 2) ≡ true)
     three = split3 (ok k) (ok (k + 1)) (ok (k + 2)) e
 
-    go : (a : ℕ) → a < 3 → getD t (k + a) 0 ≤ 1100000000000
+    go : (a : ℕ) → a < 3 → getD t (k + a) 0 ≤ ORIGIN + 100000000000
     go zero h = let j : k + 0 ≡ k = omega arith in rw j (omega (arith, up-zero 100000000000 (getD t k 0) (three .0)))
     go (suc zero) h = omega (arith, up-zero 100000000000 (getD t (k + 1) 0) (three .1))
     go (suc (suc zero)) h = omega (arith, up-zero 100000000000 (getD t (k + 2) 0) (three .2))
@@ -152,14 +152,14 @@ module _ (t l : List ℕ) (range : inRange (termsOf t) ≡ true) (near : allNear
   sixes : (one 500000 0 ≡ true) × (upTo 500000 (len (w 1)) ≡ true) × (one 10000 2 ≡ true) × (one 10000 3 ≡ true) × (one 10000 4 ≡ true) × (one 10000 5 ≡ true)
   sixes = split6 (one 500000 0) (upTo 500000 (len (w 1))) (one 10000 2) (one 10000 3) (one 10000 4) (one 10000 5) (four .0)
 
-  points : (a : ℕ) → a < 6 → getD t (6 + a) 0 ≤ 1100000000000
+  points : (a : ℕ) → a < 6 → getD t (6 + a) 0 ≤ ORIGIN + 100000000000
   points a h =
       ⊎-elim
-      (λ (g : 3 ≤ a). let j : 9 + (a - 3) ≡ 6 + a = omega arith in subst (λ (k : ℕ). getD t k 0 ≤ 1100000000000) j (earth-at t 9 (a - 3) (four .2) (omega arith)))
+      (λ (g : 3 ≤ a). let j : 9 + (a - 3) ≡ 6 + a = omega arith in subst (λ (k : ℕ). getD t k 0 ≤ ORIGIN + 100000000000) j (earth-at t 9 (a - 3) (four .2) (omega arith)))
       (λ (g : a < 3). earth-at t 6 a (four .1) g)
       (≤-or-< a 3)
 
-  sized : (i : ℕ) → 2 ≤ i → i < 6 → Between 1000000000001 1000000010000 (getD t i 0)
+  sized : (i : ℕ) → 2 ≤ i → i < 6 → Between (ORIGIN + 1) (ORIGIN + 10000) (getD t i 0)
   sized zero h g = absurd (omega arith)
   sized (suc zero) h g = absurd (omega arith)
   sized (suc (suc zero)) h g = one-range 10000 (getD t 2 0) (sixes .2)

@@ -10,7 +10,7 @@ use lib.ListN.{length, take, set, getD, length-append}
 use lib.Seq.{length-take-le, take-suc, take-all}
 use Rattle.words.specs.Paste.{pasted}
 use Rattle.words.proofs.Paste.{pasted-nil, pasted-then}
-use Rattle.image.specs.Lengths.{len}
+use Rattle.image.specs.Lengths.{ORIGIN, len}
 use Rattle.integers.specs.Diff.{sub-lt}
 use Rattle.image.proofs.Lengths.{len-pos}
 use Rattle.decimals.specs.Numbers.{digits, numeral}
@@ -62,29 +62,29 @@ module _ (out : List ℕ) where
 -- ---- the number of a word, and the byte that ends it
 
 module _ (z sep : ℕ) where
-  module _ (h : z < 1_000_000_000_000) where
-    field-minus : numeral (len z) ++ sep ∷ [] ≡ 45 ∷ [] ++ digits (1_000_000_000_000 - z) ++ sep ∷ []
+  module _ (h : z < ORIGIN) where
+    field-minus : numeral (len z) ++ sep ∷ [] ≡ 45 ∷ [] ++ digits (ORIGIN - z) ++ sep ∷ []
     unfolding numeral len
-    field-minus = let e : suc (1_000_000_000_000 - suc z) ≡ 1_000_000_000_000 - z = omega arith in rw (sub-lt z 1_000_000_000_000 h, e)
+    field-minus = let e : suc (ORIGIN - suc z) ≡ ORIGIN - z = omega arith in rw (sub-lt z ORIGIN h, e)
 
-    pub room-minus : length (numeral (len z) ++ sep ∷ []) ≡ length (digits (1_000_000_000_000 - z)) + 2
-    room-minus = rw field-minus (omega (arith, length-append (digits (1_000_000_000_000 - z)) (sep ∷ [])))
+    pub room-minus : length (numeral (len z) ++ sep ∷ []) ≡ length (digits (ORIGIN - z)) + 2
+    room-minus = rw field-minus (omega (arith, length-append (digits (ORIGIN - z)) (sep ∷ [])))
 
-    pub put-minus : {out mid : List ℕ} {at n : ℕ} → at < length out → Put (set out at 45) (at + 1) (digits (1_000_000_000_000 - z)) mid n
+    pub put-minus : {out mid : List ℕ} {at n : ℕ} → at < length out → Put (set out at 45) (at + 1) (digits (ORIGIN - z)) mid n
         → length mid ≡ length out → n < length out → Put out at (numeral (len z) ++ sep ∷ []) (set mid n sep) (n + 1)
     put-minus {out} {mid} {at} {n} p q e k =
         rw field-minus
         (put-then (put-then (put-byte out at 45 p) q (omega (arith, q .end))) (put-byte mid n sep (omega arith)) (omega arith))
 
-  module _ (h : 1_000_000_000_000 ≤ z) where
-    field-plus : numeral (len z) ++ sep ∷ [] ≡ digits (z - 1_000_000_000_000) ++ sep ∷ []
+  module _ (h : ORIGIN ≤ z) where
+    field-plus : numeral (len z) ++ sep ∷ [] ≡ digits (z - ORIGIN) ++ sep ∷ []
     unfolding numeral
     field-plus = rw (len-pos z h)
 
-    pub room-plus : length (numeral (len z) ++ sep ∷ []) ≡ length (digits (z - 1_000_000_000_000)) + 1
-    room-plus = rw field-plus (length-append (digits (z - 1_000_000_000_000)) (sep ∷ []))
+    pub room-plus : length (numeral (len z) ++ sep ∷ []) ≡ length (digits (z - ORIGIN)) + 1
+    room-plus = rw field-plus (length-append (digits (z - ORIGIN)) (sep ∷ []))
 
-    pub put-plus : {out mid : List ℕ} {at n : ℕ} → Put out at (digits (z - 1_000_000_000_000)) mid n
+    pub put-plus : {out mid : List ℕ} {at n : ℕ} → Put out at (digits (z - ORIGIN)) mid n
         → length mid ≡ length out → n < length out → Put out at (numeral (len z) ++ sep ∷ []) (set mid n sep) (n + 1)
     put-plus {out} {mid} {at} {n} q e k = rw field-plus (put-then q (put-byte mid n sep (omega arith)) (omega arith))
 

@@ -6,7 +6,7 @@ ghost use lib.ListN.{length};
 ghost use Rattle.image.specs.Lengths.{len};
 ghost use Rattle.decimals.specs.Numbers.{digits, numeral, line};
 ghost use Rattle.printing.specs.Given.{Put};
-use image::ZERO;
+use image::ORIGIN;
 
 // The digits of m.
 fn put_digits(out: &mut [u8], at: usize, m: u64) -> usize
@@ -28,13 +28,13 @@ fn put_field(out: &mut [u8], at: usize, z: u64, sep: u8) -> usize
     requires { ⌜ at + length (numeral (len z) ++ sep ∷ []) ≤ length (now out) ⌝ }
     ensures { λ r. ⌜ Put (now (out .entry)) at (numeral (len z) ++ sep ∷ []) (now (out .exit)) r ⌝ }
 {
-    if z < ZERO {
+    if z < ORIGIN {
         out[at] = 45;
-        let n = put_digits(out, at + 1, ZERO - z);
+        let n = put_digits(out, at + 1, ORIGIN - z);
         out[n] = sep;
         n + 1
     } else {
-        let n = put_digits(out, at, z - ZERO);
+        let n = put_digits(out, at, z - ORIGIN);
         out[n] = sep;
         n + 1
     }

@@ -29,9 +29,9 @@ fn residuals(terms: &[u64; 12], cells: &[u64; 90], place: usize) -> Lengths
     let h = sums::residual(terms, cells, place, 2);
     Lengths {
         refusal: 0,
-        x: x,
-        y: y,
-        h: h,
+        x,
+        y,
+        h,
     }
 }
 

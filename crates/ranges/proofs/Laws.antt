@@ -4,7 +4,7 @@ use Prim.Native.Nat.{ℕ, suc, _+_, _-_, _*_, _%_, _≤_, _<_}
 use native.Mathlib.Omega.{arith}
 use mathlib.Core.Path.{_≡_, refl, sym, ap, _∙_}
 use mathlib.Core.Bool.{Bool, true, false, _&&_}
-use mathlib.Core.Logic.{_⊎_, ⊎-elim}
+use mathlib.Core.Logic.{⊎-elim}
 use mathlib.Core.List.{List}
 use lib.ListN.{getD}
 use lib.Dec.{leb, ltb}
@@ -12,38 +12,35 @@ use lib.IntN.{ℤ, _-ℤ_, subℕ}
 use borrow.Author.Tests.{lt-ltb, le-ltb, le-leb, lt-leb}
 use Rattle.integers.specs.Diff.{sub-ge, sub-lt, ≤-or-<}
 use Rattle.paper.specs.Units.{onEarth, inRange, from1To, upTo, within, near, pointOf}
-use Rattle.image.specs.Lengths.{len, triple, tripleAt, termsOf}
+use Rattle.image.specs.Lengths.{ORIGIN, len, triple, tripleAt, termsOf}
 use Rattle.image.proofs.Lengths.{point-at, len-minus, len-pos}
-
-abbrev Z : ℕ
-Z = 1000000000000
 
 -- two tests that are made both
 pub both : {a b c d : Bool} → a ≡ b → c ≡ d → a && c ≡ b && d
 both e f = rw (e, f)
 
-one-no : (n w : ℕ) → w ≤ Z → false ≡ from1To n (len w)
+one-no : (n w : ℕ) → w ≤ ORIGIN → false ≡ from1To n (len w)
 unfolding len
 one-no n w h =
     ⊎-elim
-    (λ (k : Z ≤ w). let e : w - Z ≡ 0 = omega arith in rw (sub-ge w Z k, e))
-    (λ (k : w < Z). rw (sub-lt w Z k))
-    (≤-or-< w Z)
+    (λ (k : ORIGIN ≤ w). let e : w - ORIGIN ≡ 0 = omega arith in rw (sub-ge w ORIGIN k, e))
+    (λ (k : w < ORIGIN). rw (sub-lt w ORIGIN k))
+    (≤-or-< w ORIGIN)
 
-one-most : (n w : ℕ) → Z < w → leb w (Z + n) ≡ from1To n (len w)
+one-most : (n w : ℕ) → ORIGIN < w → leb w (ORIGIN + n) ≡ from1To n (len w)
 one-most n w h =
-    rw (len-pos w (omega arith), le-leb 1 (w - Z) (omega arith))
+    rw (len-pos w (omega arith), le-leb 1 (w - ORIGIN) (omega arith))
     (⊎-elim
-    (λ (k : w ≤ Z + n). rw (le-leb w (Z + n) k, le-leb (w - Z) n (omega arith)))
-    (λ (k : Z + n < w). rw (lt-leb w (Z + n) k, lt-leb (w - Z) n (omega arith)))
-    (≤-or-< (Z + n) w))
+    (λ (k : w ≤ ORIGIN + n). rw (le-leb w (ORIGIN + n) k, le-leb (w - ORIGIN) n (omega arith)))
+    (λ (k : ORIGIN + n < w). rw (lt-leb w (ORIGIN + n) k, lt-leb (w - ORIGIN) n (omega arith)))
+    (≤-or-< (ORIGIN + n) w))
 
-pub one-is : (n w : ℕ) → ltb Z w && leb w (Z + n) ≡ from1To n (len w)
+pub one-is : (n w : ℕ) → ltb ORIGIN w && leb w (ORIGIN + n) ≡ from1To n (len w)
 one-is n w =
     ⊎-elim
-    (λ (h : w ≤ Z). rw (le-ltb Z w h) (one-no n w h))
-    (λ (h : Z < w). rw (lt-ltb Z w h) (one-most n w h))
-    (≤-or-< Z w)
+    (λ (h : w ≤ ORIGIN). rw (le-ltb ORIGIN w h) (one-no n w h))
+    (λ (h : ORIGIN < w). rw (lt-ltb ORIGIN w h) (one-most n w h))
+    (≤-or-< ORIGIN w)
 
 pub close-less : (n a b : ℕ) → b < a → leb (a - b) n ≡ upTo n (len b -ℤ len a)
 close-less n a b h = let e : suc (a - suc b) ≡ a - b = omega arith in rw (len-minus b a, sub-lt b a h, e)
@@ -52,14 +49,14 @@ pub close-more : (n a b : ℕ) → a ≤ b → leb (b - a) n ≡ upTo n (len b -
 close-more n a b h = rw (len-minus b a, sub-ge b a h)
 
 -- from the length 0
-length-is : (w : ℕ) → subℕ w Z ≡ len w
+length-is : (w : ℕ) → subℕ w ORIGIN ≡ len w
 unfolding len
 length-is w = refl
 
-pub from-zero : (n w : ℕ) → upTo n (len w -ℤ len Z) ≡ upTo n (len w)
-from-zero n w = ap (upTo n) (len-minus w Z ∙ length-is w)
+pub from-zero : (n w : ℕ) → upTo n (len w -ℤ len ORIGIN) ≡ upTo n (len w)
+from-zero n w = ap (upTo n) (len-minus w ORIGIN ∙ length-is w)
 
-pub earth : (x y h : ℕ) → within 100000000000 (triple Z Z Z) (triple x y h) ≡ onEarth (triple x y h)
+pub earth : (x y h : ℕ) → within 100000000000 (triple ORIGIN ORIGIN ORIGIN) (triple x y h) ≡ onEarth (triple x y h)
 unfolding within onEarth
 earth x y h = both (both (from-zero 100000000000 x) (from-zero 100000000000 y)) (from-zero 100000000000 h)
 

@@ -5,16 +5,16 @@ ghost use mathlib.Core.Bool.{_&&_};
 ghost use Prim.Native.Nat.{_≤_};
 ghost use lib.IntN.{_-ℤ_};
 ghost use Rattle.paper.specs.Units.{from1To, upTo, onEarth, within, inRange, near, pointOf};
-ghost use Rattle.image.specs.Lengths.{len, triple, tripleAt, termsOf};
-use image::ZERO;
+ghost use Rattle.image.specs.Lengths.{ORIGIN, len, triple, tripleAt, termsOf};
+use image::ORIGIN;
 use procedure::Procedure;
 
 // A length from 1 to n.
 fn one_to(n: u64, w: u64) -> bool
-    requires { ⌜ n ≤ 1000000000000 ⌝ }
+    requires { ⌜ n ≤ ORIGIN ⌝ }
     ensures { λ r. ⌜ r ≡ from1To n (len w) ⌝ }
 {
-    (w > ZERO) & (w <= ZERO + n)
+    (w > ORIGIN) & (w <= ORIGIN + n)
 }
 
 // Two lengths at most n apart.
@@ -44,8 +44,8 @@ fn points_ok(t: &[u64; 12]) -> bool
     let x2 = t[9];
     let y2 = t[10];
     let h2 = t[11];
-    around(100000000000, ZERO, ZERO, ZERO, x, y, h)
-        & around(100000000000, ZERO, ZERO, ZERO, x2, y2, h2)
+    around(100000000000, ORIGIN, ORIGIN, ORIGIN, x, y, h)
+        & around(100000000000, ORIGIN, ORIGIN, ORIGIN, x2, y2, h2)
         & around(500000, x, y, h, x2, y2, h2)
 }
 
@@ -54,7 +54,7 @@ pub fn in_range(t: &[u64; 12]) -> bool
     ensures { λ r. ⌜ r ≡ inRange (termsOf (now (t .entry))) ⌝ }
 {
     one_to(500000, t[0])
-        & close(500000, ZERO, t[1])
+        & close(500000, ORIGIN, t[1])
         & one_to(10000, t[2])
         & one_to(10000, t[3])
         & one_to(10000, t[4])

@@ -19,7 +19,7 @@ use Rattle.paper.specs.Answers.{lengths, given, beside, says}
 use Rattle.paper.specs.Alone.{askedAlone}
 use Rattle.paper.proofs.Form.{parts}
 use Rattle.paper.proofs.History.{near-at}
-use Rattle.image.specs.Lengths.{triple, termsOf}
+use Rattle.image.specs.Lengths.{ORIGIN, triple, termsOf}
 use Rattle.image.specs.Places.{allZero, spotOf, spotAt, placesOf}
 use Rattle.image.proofs.Places.{place-at, empty-spot}
 use Rattle.image.proofs.Bounds.{spot-short, full-bound}
@@ -69,7 +69,7 @@ module _ (b : Book) (s : Sized b) (p : Place) (q : ℕ) (o : On b p q) where
   unfolding lengthsOf askedAlone says lowest questioned given empty paper.sight spotOf
   read-full e = rw (seen-in b (o .form), o .in-sheet, meant-open b (o .opened), spot-there b s p q o, full e)
 
-  pub read-bound : isEmpty (spotAt (b .cells) (q * 3)) ≡ false → (x < 2000000000000) × (y < 2000000000000) × (h < 2000000000000)
+  pub read-bound : isEmpty (spotAt (b .cells) (q * 3)) ≡ false → (x < 2 * ORIGIN) × (y < 2 * ORIGIN) × (h < 2 * ORIGIN)
   unfolding openOf
   read-bound e =
       let g = form-sound b (o .form) (o .opened) in

@@ -6,7 +6,7 @@ ghost use Rattle.printing.specs.Given.{Put};
 ghost use Rattle.verdicts.specs.Given.{judged, Fits, FitsAxis};
 ghost use Rattle.report.specs.Text.{refusalText, reportText};
 ghost use Rattle.report.specs.Given.{suspect, held};
-use image::ZERO;
+use image::ORIGIN;
 use verdicts::Axis;
 
 // The first `len` bytes are the text.
@@ -22,10 +22,15 @@ fn put_refusal(out: &mut [u8], refusal: u64, series: u64, set: u64, quantity: u6
 {
     let i = printing::put_fixed(out, 0, b"REFUSED ");
     if refusal == 11 {
-        let t = [refusal + ZERO, series + ZERO, set + ZERO, quantity + ZERO];
+        let t = [
+            refusal + ORIGIN,
+            series + ORIGIN,
+            set + ORIGIN,
+            quantity + ORIGIN,
+        ];
         return printing::put_numbers(out, i, &t);
     }
-    let t = [refusal + ZERO];
+    let t = [refusal + ORIGIN];
     printing::put_numbers(out, i, &t)
 }
 

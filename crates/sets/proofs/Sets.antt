@@ -12,7 +12,7 @@ use Rattle.whole.specs.Nearest.{nearestOf}
 use Rattle.paper.specs.Procedure.{SERIES, SETS, POINTS}
 use Rattle.paper.specs.Units.{inOrder}
 use Rattle.paper.specs.Screening.{at, q, D, distanceOff, heightOff, passes, suspicious}
-use Rattle.image.specs.Lengths.{len, tripleAt, termsOf}
+use Rattle.image.specs.Lengths.{ORIGIN, len, tripleAt, termsOf}
 use Rattle.image.specs.Places.{placesOf}
 use Rattle.image.specs.Ready.{Ready}
 use Rattle.image.proofs.Lengths.{len-pos, len-difference}
@@ -27,11 +27,11 @@ unfolding qOf tripleAt
 q-from-is l m dx dy ex ey = let e : m + 3 + 1 ≡ m + 4 = omega arith in rw (e, ex, ey)
 
 -- D* as a number, and the greatest difference that passes
-pub most-small : (t l : List ℕ) → Ready t l → (most : ℕ) → most ≡ mostPassing (termsOf t .screenXY) → getD t 0 0 - 1000000000000 + most < 1000000
+pub most-small : (t l : List ℕ) → Ready t l → (most : ℕ) → most ≡ mostPassing (termsOf t .screenXY) → getD t 0 0 - ORIGIN + most < 1000000
 unfolding termsOf
 most-small t l r most e =
     let g = r .scales 2 (omega arith) (omega arith) in
-    let k : getD t 2 0 - 1000000000000 ≤ 10000 = omega arith in
+    let k : getD t 2 0 - ORIGIN ≤ 10000 = omega arith in
     let h : mostPassing (len (getD t 2 0)) ≤ 50000 = most-le (len (getD t 2 0)) (rw (len-pos (getD t 2 0) (omega arith)) (omega (arith, squared k))) in
     omega (arith, r .distance)
 
@@ -59,15 +59,15 @@ module _ (t l : List ℕ) (r : Ready t l) (i j : ℕ) (lo : 1 ≤ i) (hi : i ≤
       (omega arith, omega arith, omega arith)
 
   pub distance-is : (n most : ℕ) (b : Bool) → n ≡ qOf l m → most ≡ mostPassing (termsOf t .screenXY)
-      → b ≡ ltb most (natAbs (pos (nearestOf n) -ℤ pos (getD t 0 0 - 1000000000000)))
+      → b ≡ ltb most (natAbs (pos (nearestOf n) -ℤ pos (getD t 0 0 - ORIGIN)))
       → b ≡ suspicious (termsOf t) (placesOf l) (distance i j)
   unfolding suspicious distanceOff D q qOf termsOf
   distance-is n most b en em eb =
-      let low : 1000000000000 ≤ getD t 0 0 = omega (arith, r .distance) in
+      let low : ORIGIN ≤ getD t 0 0 = omega (arith, r .distance) in
       rw (at-one, at-two, len-pos (getD t 0 0) low, eb, em, en) (passes-up-to _ _)
 
-  pub height-is : (d : ℕ) (b : Bool) → getD l (m + 2) 0 ≤ getD l (m + 5) 0 + 1000000000000
-      → d ≡ natAbs (len (getD l (m + 5) 0 + 1000000000000 - getD l (m + 2) 0) -ℤ len (getD t 1 0))
+  pub height-is : (d : ℕ) (b : Bool) → getD l (m + 2) 0 ≤ getD l (m + 5) 0 + ORIGIN
+      → d ≡ natAbs (len (getD l (m + 5) 0 + ORIGIN - getD l (m + 2) 0) -ℤ len (getD t 1 0))
       → b ≡ not (passes (len (getD t 3 0)) d) → b ≡ suspicious (termsOf t) (placesOf l) (height i j)
   unfolding suspicious heightOff tripleAt termsOf
   height-is d b h ed eb = let e : m + 3 + 2 ≡ m + 5 = omega arith in rw (at-one, at-two, e, eb, ed, len-difference (getD l (m + 5) 0) (getD l (m + 2) 0) h)

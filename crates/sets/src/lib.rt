@@ -8,7 +8,7 @@ ghost use Rattle.image.specs.Places.{placesOf};
 ghost use Rattle.image.specs.Ready.{Ready};
 ghost use Rattle.limits.specs.Most.{mostPassing};
 ghost use Rattle.sets.specs.Words.{wordsFrom, Near, qOf, distance, height};
-use image::ZERO;
+use image::ORIGIN;
 use procedure::Procedure;
 
 // Where D*, h* and s_h stand among the terms.
@@ -49,7 +49,7 @@ pub fn distance_suspect(
 {
     let m = words_from(series, set);
     let q = q_from(cells, m);
-    limits::further(q, terms[DISTANCE] - ZERO, most)
+    limits::further(q, terms[DISTANCE] - ORIGIN, most)
 }
 
 // Whether the height of a set is suspect.
@@ -58,6 +58,6 @@ pub fn height_suspect(terms: &[u64; 12], cells: &[u64; 90], series: usize, set: 
     ensures { λ r. ⌜ r ≡ suspicious (termsOf (now (terms .entry))) (placesOf (now (cells .entry))) (height series set) ⌝ }
 {
     let m = words_from(series, set);
-    let d = limits::apart(cells[m + 5] + ZERO - cells[m + 2], terms[HEIGHT]);
+    let d = limits::apart(cells[m + 5] + ORIGIN - cells[m + 2], terms[HEIGHT]);
     limits::beyond(terms[SCREEN_H], d)
 }

@@ -1,27 +1,26 @@
 -- What the marks of places say.
 -- Assumes nothing.
-use Prim.Native.Nat.{ℕ, _+_, _*_, _≤_, _<_}
-use native.Mathlib.Nat.{lt-irrefl}
+use Prim.Native.Nat.{ℕ, _≤_, _<_}
 use native.Mathlib.Omega.{arith}
 use native.Mathlib.Decide.{ℕ-discrete}
-use mathlib.Core.Path.{_≡_, refl, sym, _∙_, subst}
-use mathlib.Core.Logic.{_⊎_, ⊎-elim}
-use mathlib.Core.Bool.{Bool, true, false, not, _&&_, and-true}
+use mathlib.Core.Path.{_≡_, sym, _∙_}
+use mathlib.Core.Logic.{⊎-elim}
+use mathlib.Core.Bool.{Bool, true, false, not, and-true}
 use mathlib.Core.Option.{none}
 use mathlib.Core.List.{List}
 use lib.ListN.{length, getD, set, length-set}
 use lib.Seq.{getD-set-same, getD-set-other}
 use lib.Dec.{eqb}
-use borrow.Author.Tests.{lt-ltb, le-ltb, eq-eqb, ne-eqb}
+use borrow.Author.Tests.{lt-ltb, le-ltb}
 use Rattle.integers.specs.Diff.{≤-or-<}
 use Rattle.paper.specs.Procedure.{PLACES}
 use Rattle.paper.specs.Units.{Terms, Places, isEmpty, near, pointOf, nearAt}
 use Rattle.paper.specs.Books.{make}
 use Rattle.paper.specs.Form.{fits}
 use Rattle.image.specs.Lengths.{triple}
-use Rattle.image.specs.Places.{allZero, spotOf, spotAt, placesOf}
+use Rattle.image.specs.Places.{allZero, spotOf}
 use Rattle.image.specs.Changes.{change}
-use Rattle.image.proofs.Places.{place-at, empty-spot}
+use Rattle.image.proofs.Places.{empty-spot}
 use Rattle.places.proofs.Laws.{spot-none, spot-some}
 use Rattle.places.specs.Marks.{Marks}
 use Rattle.standing.specs.Marked.{fitsMarked}

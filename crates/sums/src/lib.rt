@@ -43,7 +43,7 @@ fn added_up(terms: &[u64; 12], cells: &[u64; 90], point: usize, axis: usize) -> 
         s += u;
         q += u * u;
     }
-    Added { s: s, q: q }
+    Added { s, q }
 }
 
 // Q of a point and an axis.

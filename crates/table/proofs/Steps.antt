@@ -1,13 +1,13 @@
 -- The reader of the table of contents, step by step, as the code goes.
 -- Assumes nothing.
-use Prim.Native.Nat.{ℕ, _-_, _<_, _≤_}
+use Prim.Native.Nat.{ℕ, _+_, _-_, _<_, _≤_}
 use mathlib.Core.Path.{_≡_, refl, sym, _∙_}
 use mathlib.Core.List.{List}
 use native.Mathlib.Omega.{arith}
 use borrow.Author.Tests.{le-leb, lt-leb}
 use lib.ListN.{length, drop}
 use lib.IntN.{ℤ, pos, negsuc}
-use Rattle.image.specs.Lengths.{word}
+use Rattle.image.specs.Lengths.{ORIGIN, word}
 use Rattle.decimals.specs.Reader.{Parsed, got, bad, fixed}
 use Rattle.decimals.specs.Given.{Got, Nothing}
 use Rattle.decimals.proofs.Steps.{then-got, then-bad}
@@ -19,28 +19,28 @@ use Rattle.table.specs.declared.Counts.the-variants.{Of, Bad}
 -- ---- counts
 
 module _ (v : ℤ) (z : ℕ) (r : List ℕ) (e : z ≡ word v) where
-  pub count-low : z < 1_000_000_000_000 → upTo10 v r ≡ bad
+  pub count-low : z < ORIGIN → upTo10 v r ≡ bad
   unfolding upTo10 word
   count-low = go v e
     where
-      go : (v : ℤ) → z ≡ word v → z < 1_000_000_000_000 → upTo10 v r ≡ bad
+      go : (v : ℤ) → z ≡ word v → z < ORIGIN → upTo10 v r ≡ bad
       go (pos n) e h = absurd (omega arith)
       go (negsuc n) e h = refl
 
-  pub count-high : 1_000_000_000_010 < z → upTo10 v r ≡ bad
+  pub count-high : ORIGIN + 10 < z → upTo10 v r ≡ bad
   unfolding upTo10 word
   count-high = go v e
     where
-      go : (v : ℤ) → z ≡ word v → 1_000_000_000_010 < z → upTo10 v r ≡ bad
+      go : (v : ℤ) → z ≡ word v → ORIGIN + 10 < z → upTo10 v r ≡ bad
       go (pos n) e h = rw (lt-leb n 10 (omega arith))
       go (negsuc n) e h = refl
 
-  pub count-is : 1_000_000_000_000 ≤ z → z ≤ 1_000_000_000_010 → upTo10 v r ≡ got (z - 1_000_000_000_000) r
+  pub count-is : ORIGIN ≤ z → z ≤ ORIGIN + 10 → upTo10 v r ≡ got (z - ORIGIN) r
   unfolding upTo10 word
   count-is = go v e
     where
-      go : (v : ℤ) → z ≡ word v → 1_000_000_000_000 ≤ z → z ≤ 1_000_000_000_010 → upTo10 v r ≡ got (z - 1_000_000_000_000) r
-      go (pos n) e h k = let f : z - 1_000_000_000_000 ≡ n = omega arith in rw (f, le-leb n 10 (omega arith))
+      go : (v : ℤ) → z ≡ word v → ORIGIN ≤ z → z ≤ ORIGIN + 10 → upTo10 v r ≡ got (z - ORIGIN) r
+      go (pos n) e h k = let f : z - ORIGIN ≡ n = omega arith in rw (f, le-leb n 10 (omega arith))
       go (negsuc n) e h k = absurd (omega arith)
 
 -- ---- the table of contents

@@ -5,10 +5,10 @@ ghost use Rattle.decimals.specs.Given.{Gives};
 ghost use Rattle.fieldfile.specs.Reader.{count, table};
 ghost use Rattle.table.specs.Given.{Count, Tabled};
 use decimals::Read;
-use image::ZERO;
+use image::ORIGIN;
 
 // The word of 10, the most lines of a body.
-const TEN: u64 = ZERO + 10;
+const TEN: u64 = ORIGIN + 10;
 
 // The fixed strings of a file, for whoever reads or writes one.
 pub const CONTENTS: [u8; 11] = *b"CONTENTS 4\n";
@@ -38,13 +38,13 @@ fn count_at(s: &[u8], at: usize, name: &[u8]) -> Read
     let Read::At(z, next) = lines::field_at(s, n, 10) else {
         return Read::Bad;
     };
-    if z < ZERO {
+    if z < ORIGIN {
         return Read::Bad;
     }
     if TEN < z {
         return Read::Bad;
     }
-    Read::At(z - ZERO, next)
+    Read::At(z - ORIGIN, next)
 }
 
 // The table of contents.

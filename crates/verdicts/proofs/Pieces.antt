@@ -8,7 +8,7 @@ use native.Mathlib.Omega.{arith}
 use lib.ListN.{length, length-append}
 use lib.IntN.{pos}
 use Rattle.paper.specs.Verdicts.{Judged}
-use Rattle.image.specs.Lengths.{len}
+use Rattle.image.specs.Lengths.{ORIGIN, len}
 use Rattle.image.proofs.Lengths.{len-up}
 use Rattle.decimals.specs.Ascii.{ascii}
 use Rattle.decimals.specs.Numbers.{AllShort, line}
@@ -51,7 +51,7 @@ starts h = omega arith
 -- ---- numbers
 
 -- numbers from 0 up, as words
-pub lens-up : (ns : List ℕ) → map len (map (λ (n : ℕ). n + 1_000_000_000_000) ns) ≡ map pos ns
+pub lens-up : (ns : List ℕ) → map len (map (λ (n : ℕ). n + ORIGIN) ns) ≡ map pos ns
 lens-up [] = refl
 lens-up (n ∷ ns) = rw (len-up n, lens-up ns)
 

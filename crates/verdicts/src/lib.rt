@@ -7,7 +7,7 @@ ghost use Rattle.decimals.specs.Numbers.{line};
 ghost use Rattle.printing.specs.Given.{Put};
 ghost use Rattle.verdicts.specs.Text.{axisLine, verdictText};
 ghost use Rattle.verdicts.specs.Given.{judged, Fits, FitsAxis};
-use image::ZERO;
+use image::ORIGIN;
 
 // A verdict in whole numbers: s is m / 1,024 mm, its bound b / 1,024 mm.
 pub struct Axis {
@@ -21,7 +21,7 @@ fn put_figures(out: &mut [u8], at: usize, m: u64, b: u64) -> usize
     requires { ⌜ Fits m × Fits b × (at + length (line (pos m ∷ pos b ∷ [])) ≤ length (now out)) ⌝ }
     ensures { λ r. ⌜ Put (now (out .entry)) at (line (pos m ∷ pos b ∷ [])) (now (out .exit)) r ⌝ }
 {
-    let t = [m + ZERO, b + ZERO];
+    let t = [m + ORIGIN, b + ORIGIN];
     printing::put_numbers(out, at, &t)
 }
 

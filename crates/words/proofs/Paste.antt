@@ -1,16 +1,16 @@
 -- Laws of pasting, and of words in a row that was pasted over.
 -- Assumes nothing.
-use mathlib.Core.Path.{_≡_, refl, sym, ap, _∙_, subst}
+use mathlib.Core.Path.{_≡_, refl, sym, ap, _∙_}
 use mathlib.Core.List.{List, [], _∷_, _++_, append-assoc, append-nil}
-use Prim.Native.Nat.{ℕ, zero, suc, _+_, _-_, _*_, _^_, _≤_, _<_}
+use Prim.Native.Nat.{ℕ, zero, suc, _+_, _*_, _^_, _≤_, _<_}
 use native.Mathlib.Numerals.{add-one, unary-clauses}
 use native.Mathlib.Omega.{arith}
-use native.Mathlib.Nat.{add-zero, zero-add, suc-add, add-assoc, mul-suc}
-use lib.ListN.{set, length, take, drop, getD, length-append, length-drop, take-append-drop}
-use lib.Seq.{length-take-le, take-at, drop-at, drop-append-add, drop-drop, take-suc, take-nil, take-take, drop-append-le, take-append-le, sets-eq}
+use native.Mathlib.Nat.{add-zero, zero-add, suc-add, mul-suc}
+use lib.ListN.{set, length, take, drop, getD, length-append, take-append-drop}
+use lib.Seq.{length-take-le, take-at, drop-at, drop-append-add, drop-drop, take-suc, take-nil, take-take, sets-eq}
 use Rattle.words.specs.Words.{le, digits, words, bytesOf}
 use Rattle.words.specs.Paste.{pasted}
-use Rattle.words.proofs.Words.{load-turn, le-digits, bytesOf-append, length-bytesOf, length-digits, words-add, length-words}
+use Rattle.words.proofs.Words.{load-turn, le-digits, bytesOf-append, length-bytesOf, length-digits}
 
 pub pasted-nil : (r : List ℕ) (a : ℕ) → pasted r a [] ≡ r
 unfolding pasted

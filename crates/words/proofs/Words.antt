@@ -1,13 +1,13 @@
 -- Laws of words in a row of bytes.
 -- Assumes nothing.
-use mathlib.Core.Path.{_≡_, refl, sym, ap, _∙_, subst}
-use mathlib.Core.List.{List, [], _∷_, _++_, append-assoc, append-nil}
-use Prim.Native.Nat.{ℕ, zero, suc, _+_, _*_, _/_, _%_, _^_, _≤_, _<_, zero-le, suc-le-suc}
+use mathlib.Core.Path.{_≡_, refl, sym, ap, subst}
+use mathlib.Core.List.{List, [], _∷_, _++_, append-assoc}
+use Prim.Native.Nat.{ℕ, zero, suc, _+_, _*_, _/_, _%_, _^_, _≤_, _<_}
 use native.Mathlib.Numerals.{add-one, unary-clauses}
 use native.Mathlib.Omega.{arith}
 use native.Mathlib.Nat.{mul-suc, mul-zero, add-zero, mul-comm, suc-add, zero-add, pow-succ'}
-use lib.ListN.{set, length, take, drop, getD, take-append-drop, length-append, length-take, length-drop}
-use lib.Seq.{set-at, append-snoc, drop-append-add, take-suc, take-length, sets-eq, drop-cons, take-at, drop-at, take-add, drop-drop, drop-nil, length-take-le, take-all, getD-drop, getD-take}
+use lib.ListN.{set, length, take, drop, getD, take-append-drop, length-append, length-drop}
+use lib.Seq.{set-at, append-snoc, sets-eq, drop-cons, drop-drop, length-take-le, getD-drop}
 use Rattle.words.specs.Words.{le, sumAt, digits, words, bytesOf}
 
 -- ---- digits

@@ -1,19 +1,15 @@
 use mir.Syntax.{w64}
 use mir.ValLaws.{toZ-ofZ}
 use native.Mathlib.Omega.{arith}
+use Rattle.paper.specs.Units.{Triple}
 use Rattle.paper.specs.Calls.{Act, enter}
-use Rattle.acts.proofs.Acted.{accepted-length, acted}
+use Rattle.acts.proofs.Acted.{accepted-length, acted, as-given}
 use borrow.Author.Needs.{needs}
 use Rattle.acts.proofs.rtk_enter.Statement.{statement}
 use Rattle.acts.proofs.rtk_enter.Tie as tie
-use Rattle.acts.proofs.rtk_enter.Reads as reads
-use Rattle.acts.proofs.rtk_enter.Lts as lts
-use Rattle.book.proofs.Book.enter.Reads as enter-reads
-use Rattle.lent.proofs.found.Reads as found-reads
-use Rattle.lent.proofs.put_back.Reads as put-back-reads
 
-abbrev does : tie.Start → Act
-does s = enter (record { series = s .args .series; set = s .args .set; point = s .args .point }) (record { x = s .args .x; y = s .args .y; h = s .args .h })
+abbrev does : tie.Start → Triple → Act
+does s = enter (record { series = s .args .series; set = s .args .set; point = s .args .point })
 
 found-requires : tie.Need-found-requires
 found-requires c κs = search needs
@@ -32,8 +28,14 @@ same-length c = search needs
 returns : tie.Need-returns
 returns c =
     let s = c .before .before .before .before .before .before .before .before in
-    let e = rw (toZ-ofZ w64 (s .args .x) (s .fits .x), toZ-ofZ w64 (s .args .y) (s .fits .y), toZ-ofZ w64 (s .args .h) (s .fits .h)) at (c .before .before .before .before .enter .ensures) in
-    acted (s .args .register .now) (s .args .book) (does s) (λ i. omega (arith, c .before .before .before .before .before .before .before .slice-known .given i)) _ _ _ _ (c .before .before .before .before .before .found .ensures) e (c .before .before .put-back .ensures)
+    let a = s .args in
+    let e =
+    as-given (does s) _ _ (a .x) (a .y) (a .h) _ _ _
+    (toZ-ofZ w64 (a .x) (s .fits .x))
+    (toZ-ofZ w64 (a .y) (s .fits .y))
+    (toZ-ofZ w64 (a .h) (s .fits .h))
+    (c .before .before .before .before .enter .ensures) in
+    acted (a .register .now) (a .book) (does s (record { x = a .x; y = a .y; h = a .h })) (λ i. omega (arith, c .before .before .before .before .before .before .before .slice-known .given i)) _ _ _ _ (c .before .before .before .before .before .found .ensures) e (c .before .before .put-back .ensures)
 
 pub rtk-enter-spec : {M : Type 1} → statement M
 rtk-enter-spec =

@@ -7,11 +7,6 @@ use Rattle.acts.proofs.Acted.{accepted-length, acted}
 use borrow.Author.Needs.{needs}
 use Rattle.acts.proofs.rtk_open.Statement.{statement}
 use Rattle.acts.proofs.rtk_open.Tie as tie
-use Rattle.acts.proofs.rtk_open.Reads as reads
-use Rattle.acts.proofs.rtk_open.Lts as lts
-use Rattle.book.proofs.Book.begin.Reads as begin-reads
-use Rattle.lent.proofs.found.Reads as found-reads
-use Rattle.lent.proofs.put_back.Reads as put-back-reads
 
 abbrev does : tie.Start → Act
 does s = begin (termsGiven (s .args .d) (s .args .h) (s .args .sxy) (s .args .sh) (s .args .gxy) (s .args .gh) (s .args .x1) (s .args .y1) (s .args .h1) (s .args .x2) (s .args .y2) (s .args .h2))

@@ -4,11 +4,6 @@ use Rattle.acts.proofs.Acted.{accepted-length, acted}
 use borrow.Author.Needs.{needs}
 use Rattle.acts.proofs.rtk_take_back.Statement.{statement}
 use Rattle.acts.proofs.rtk_take_back.Tie as tie
-use Rattle.acts.proofs.rtk_take_back.Reads as reads
-use Rattle.acts.proofs.rtk_take_back.Lts as lts
-use Rattle.book.proofs.Book.take_back.Reads as take-back-reads
-use Rattle.lent.proofs.found.Reads as found-reads
-use Rattle.lent.proofs.put_back.Reads as put-back-reads
 
 abbrev does : tie.Start → Act
 does s = takeBack

@@ -4,11 +4,6 @@ use Rattle.acts.proofs.Acted.{accepted-length, acted}
 use borrow.Author.Needs.{needs}
 use Rattle.acts.proofs.rtk_withdraw.Statement.{statement}
 use Rattle.acts.proofs.rtk_withdraw.Tie as tie
-use Rattle.acts.proofs.rtk_withdraw.Reads as reads
-use Rattle.acts.proofs.rtk_withdraw.Lts as lts
-use Rattle.book.proofs.Book.withdraw.Reads as withdraw-reads
-use Rattle.lent.proofs.found.Reads as found-reads
-use Rattle.lent.proofs.put_back.Reads as put-back-reads
 
 abbrev does : tie.Start → Act
 does s = withdraw (record { series = s .args .series; set = s .args .set; point = s .args .point })

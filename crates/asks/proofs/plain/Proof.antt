@@ -2,9 +2,6 @@ use Rattle.asks.specs.Answers.{plainOf}
 use borrow.Author.Needs.{needs}
 use Rattle.asks.proofs.plain.Statement.{statement}
 use Rattle.asks.proofs.plain.Tie as tie
-use Rattle.asks.proofs.plain.Reads as reads
-use Rattle.asks.proofs.plain.Lts as lts
-use Rattle.doubles.proofs.mark_of.Reads as mark-of-reads
 
 mark-of-requires : tie.Need-mark-of-requires
 mark-of-requires c κs = search needs

@@ -1,8 +1,6 @@
 use Rattle.asks.specs.Answers.{plainlyOf}
 use Rattle.asks.proofs.plainly.Statement.{statement}
 use Rattle.asks.proofs.plainly.Tie as tie
-use Rattle.asks.proofs.plainly.Reads as reads
-use Rattle.asks.proofs.plainly.Lts as lts
 
 returns : tie.Need-returns
 unfolding plainlyOf

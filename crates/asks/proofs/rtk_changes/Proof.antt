@@ -3,11 +3,6 @@ use Rattle.asks.proofs.Asked.{counts, count-asked}
 use borrow.Author.Needs.{needs}
 use Rattle.asks.proofs.rtk_changes.Statement.{statement}
 use Rattle.asks.proofs.rtk_changes.Tie as tie
-use Rattle.asks.proofs.rtk_changes.Reads as reads
-use Rattle.asks.proofs.rtk_changes.Lts as lts
-use Rattle.lent.proofs.found.Reads as found-reads
-use Rattle.lent.proofs.turned_away.Reads as turned-away-reads
-use Rattle.readings.proofs.changes.Reads as changes-reads
 
 found-requires : tie.Need-found-requires
 found-requires c κs = search needs

@@ -3,13 +3,6 @@ use Rattle.asks.proofs.Compared.{comparison-asked}
 use borrow.Author.Needs.{needs}
 use Rattle.asks.proofs.rtk_compare.Statement.{statement}
 use Rattle.asks.proofs.rtk_compare.Tie as tie
-use Rattle.asks.proofs.rtk_compare.Reads as reads
-use Rattle.asks.proofs.rtk_compare.Lts as lts
-use Rattle.lent.proofs.found.Reads as found-reads
-use Rattle.lent.proofs.picked.Reads as picked-reads
-use Rattle.lent.proofs.turned_away.Reads as turned-away-reads
-use Rattle.pairs.proofs.compare.Reads as compare-reads
-use Rattle.asks.proofs.plainly.Reads as plainly-reads
 
 found-requires : tie.Need-found-requires
 found-requires c κs = search needs

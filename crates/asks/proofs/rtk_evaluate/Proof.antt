@@ -4,12 +4,6 @@ use Rattle.asks.proofs.Asked.{evaluates, evaluation-asked}
 use borrow.Author.Needs.{needs}
 use Rattle.asks.proofs.rtk_evaluate.Statement.{statement}
 use Rattle.asks.proofs.rtk_evaluate.Tie as tie
-use Rattle.asks.proofs.rtk_evaluate.Reads as reads
-use Rattle.asks.proofs.rtk_evaluate.Lts as lts
-use Rattle.lent.proofs.found.Reads as found-reads
-use Rattle.lent.proofs.turned_away.Reads as turned-away-reads
-use Rattle.questions.proofs.evaluate.Reads as evaluate-reads
-use Rattle.asks.proofs.plain.Reads as plain-reads
 
 found-requires : tie.Need-found-requires
 found-requires c κs = search needs

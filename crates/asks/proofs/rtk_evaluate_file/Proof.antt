@@ -3,10 +3,6 @@ use Rattle.asks.specs.Answers.{plainOf, evaluationOf}
 use borrow.Author.Needs.{needs}
 use Rattle.asks.proofs.rtk_evaluate_file.Statement.{statement}
 use Rattle.asks.proofs.rtk_evaluate_file.Tie as tie
-use Rattle.asks.proofs.rtk_evaluate_file.Reads as reads
-use Rattle.asks.proofs.rtk_evaluate_file.Lts as lts
-use Rattle.filequestions.proofs.evaluate_file.Reads as evaluate-file-reads
-use Rattle.asks.proofs.plain.Reads as plain-reads
 
 evaluate-file-requires : tie.Need-evaluate-file-requires
 evaluate-file-requires c κs = search needs

@@ -4,11 +4,6 @@ use Rattle.asks.proofs.Asked.{reads, lengths-asked}
 use borrow.Author.Needs.{needs}
 use Rattle.asks.proofs.rtk_read.Statement.{statement}
 use Rattle.asks.proofs.rtk_read.Tie as tie
-use Rattle.asks.proofs.rtk_read.Reads as reads
-use Rattle.asks.proofs.rtk_read.Lts as lts
-use Rattle.lent.proofs.found.Reads as found-reads
-use Rattle.lent.proofs.turned_away.Reads as turned-away-reads
-use Rattle.readings.proofs.read.Reads as read-reads
 
 found-requires : tie.Need-found-requires
 found-requires c κs = search needs

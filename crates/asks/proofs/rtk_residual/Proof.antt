@@ -4,11 +4,6 @@ use Rattle.asks.proofs.Asked.{residues, lengths-asked}
 use borrow.Author.Needs.{needs}
 use Rattle.asks.proofs.rtk_residual.Statement.{statement}
 use Rattle.asks.proofs.rtk_residual.Tie as tie
-use Rattle.asks.proofs.rtk_residual.Reads as reads
-use Rattle.asks.proofs.rtk_residual.Lts as lts
-use Rattle.lent.proofs.found.Reads as found-reads
-use Rattle.lent.proofs.turned_away.Reads as turned-away-reads
-use Rattle.questions.proofs.residual.Reads as residual-reads
 
 found-requires : tie.Need-found-requires
 found-requires c κs = search needs

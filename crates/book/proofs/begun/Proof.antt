@@ -2,8 +2,6 @@ use mathlib.Core.Path.{refl}
 use Rattle.book.specs.Steps.{begunOf}
 use Rattle.book.proofs.begun.Statement.{statement}
 use Rattle.book.proofs.begun.Tie as tie
-use Rattle.book.proofs.begun.Reads as reads
-use Rattle.book.proofs.begun.Lts as lts
 
 returns : tie.Need-returns
 unfolding begunOf

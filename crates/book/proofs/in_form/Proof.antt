@@ -2,9 +2,6 @@ use Rattle.book.specs.Meaning.{bookForm}
 use borrow.Author.Needs.{needs}
 use Rattle.book.proofs.in_form.Statement.{statement}
 use Rattle.book.proofs.in_form.Tie as tie
-use Rattle.book.proofs.in_form.Reads as reads
-use Rattle.book.proofs.in_form.Lts as lts
-use Rattle.form.proofs.in_form.Reads as in-form-reads
 
 in-form-requires : tie.Need-in-form-requires
 in-form-requires c κs = search needs

@@ -9,10 +9,6 @@ use Rattle.evaluate.specs.Input.{Ends}
 use lib.ListN.{length}
 use Rattle.evaluate.proofs.fill.Statement.{statement}
 use Rattle.evaluate.proofs.fill.Tie as tie
-use Rattle.evaluate.proofs.fill.Reads as reads
-use Rattle.evaluate.proofs.fill.Lts as lts
-use Rattle.evaluate.proofs.next_place.Reads as next-place-reads
-use Rattle.evaluate.proofs.read_once.Reads as read-once-reads
 
 abbrev Inv-loop : tie.InvT-loop
 Inv-loop buffer₀ len₀ turns₀ buffer len turns =

@@ -9,11 +9,6 @@ use Rattle.evaluate.specs.Input.{Ends}
 use borrow.Author.Needs.{needs}
 use Rattle.evaluate.proofs.main.Statement.{statement}
 use Rattle.evaluate.proofs.main.Tie as tie
-use Rattle.evaluate.proofs.main.Reads as reads
-use Rattle.evaluate.proofs.main.Lts as lts
-use Rattle.evaluate.proofs.fill.Reads as fill-reads
-use Rattle.evaluate.proofs.print.Reads as print-reads
-use Rattle.os.proofs.fail.Reads as fail-reads
 
 slice-aggregate-fill : tie.Need-slice-aggregate-fill
 slice-aggregate-fill c = search needs

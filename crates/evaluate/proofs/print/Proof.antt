@@ -4,11 +4,6 @@ use Rattle.report.proofs.Pieces.{held-room}
 use borrow.Author.Needs.{needs}
 use Rattle.evaluate.proofs.print.Statement.{statement}
 use Rattle.evaluate.proofs.print.Tie as tie
-use Rattle.evaluate.proofs.print.Reads as reads
-use Rattle.evaluate.proofs.print.Lts as lts
-use Rattle.filequestions.proofs.report_file.Reads as report-file-reads
-use Rattle.io.proofs.write_all.Reads as write-all-reads
-use Rattle.os.proofs.fail.Reads as fail-reads
 
 report-file-requires : tie.Need-report-file-requires
 report-file-requires c κs = search needs

@@ -3,6 +3,7 @@ use Prim.Native.Nat.{_≤_}
 use native.Mathlib.Omega.{arith}
 use native.Mathlib.Nat.{mul-le-mul}
 use borrow.Author.Needs.{needs}
+use Rattle.image.specs.Lengths.{ORIGIN}
 use Rattle.figures.proofs.Judging.{sigma², judged-is}
 use Rattle.figures.proofs.judged_by.Statement.{statement}
 use Rattle.figures.proofs.judged_by.Tie as tie
@@ -28,7 +29,7 @@ greatest-requires c κs = search needs
 returns : tie.Need-returns
 returns c =
     let s = c .before .before in
-    let low : 1000000000000 ≤ s .args .sigma = omega arith in (
+    let low : ORIGIN ≤ s .args .sigma = omega arith in (
       judged-is _ _ _ _ _ _ _ _ _ low (c .before .within-by .ensures) (s .pre .5) (c .greatest .ensures .0),
       record { m = s .pre .6; b = c .greatest .ensures .1 },
     )

@@ -3,6 +3,7 @@ use Prim.Native.Nat.{_≤_}
 use native.Mathlib.Omega.{arith}
 use native.Mathlib.Nat.{mul-le-mul}
 use borrow.Author.Needs.{needs}
+use Rattle.image.specs.Lengths.{ORIGIN}
 use Rattle.figures.proofs.Judging.{sigma², within-by-is}
 use Rattle.figures.proofs.within_by.Statement.{statement}
 use Rattle.figures.proofs.within_by.Tie as tie
@@ -21,7 +22,7 @@ mul-limit-2 c = omega (arith, mul-le-mul (c .pre .1) (sigma² (c .pre .3 .1)))
 
 returns : tie.Need-returns
 returns c =
-    let low : 1000000000000 ≤ c .args .sigma = omega arith in within-by-is _ _ _ _ low
+    let low : ORIGIN ≤ c .args .sigma = omega arith in within-by-is _ _ _ _ low
 
 pub within-by-spec : {M : Type 1} → statement M
 within-by-spec = tie.close (tie.spec sub-s mul-tested mul-limit mul-limit-2 returns)

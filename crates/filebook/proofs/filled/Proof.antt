@@ -2,8 +2,6 @@ use mathlib.Core.Path.{refl}
 use Rattle.filebook.specs.FileBook.{filledOf}
 use Rattle.filebook.proofs.filled.Statement.{statement}
 use Rattle.filebook.proofs.filled.Tie as tie
-use Rattle.filebook.proofs.filled.Reads as reads
-use Rattle.filebook.proofs.filled.Lts as lts
 
 returns : tie.Need-returns
 unfolding filledOf

@@ -6,13 +6,6 @@ use Rattle.filebook.proofs.Ways.{unread, was-read, way-form, way-terms,
 use borrow.Author.Needs.{needs}
 use Rattle.filebook.proofs.read_book.Statement.{statement}
 use Rattle.filebook.proofs.read_book.Tie as tie
-use Rattle.filebook.proofs.read_book.Reads as reads
-use Rattle.filebook.proofs.read_book.Lts as lts
-use Rattle.filebook.proofs.filled.Reads as filled-reads
-use Rattle.filebook.proofs.refused.Reads as refused-reads
-use Rattle.contents.proofs.read.Reads as read-reads
-use Rattle.places.proofs.all_near.Reads as all-near-reads
-use Rattle.ranges.proofs.in_range.Reads as in-range-reads
 
 read-requires : tie.Need-read-requires
 read-requires c κs = search needs

@@ -1,9 +1,6 @@
 use borrow.Author.Needs.{needs}
 use Rattle.filebook.proofs.refused.Statement.{statement}
 use Rattle.filebook.proofs.refused.Tie as tie
-use Rattle.filebook.proofs.refused.Reads as reads
-use Rattle.filebook.proofs.refused.Lts as lts
-use Rattle.book.proofs.closed.Reads as closed-reads
 
 closed-requires : tie.Need-closed-requires
 closed-requires c κs = search needs

@@ -3,10 +3,6 @@ use Rattle.doubles.specs.Doubles.{doubled}
 use borrow.Author.Needs.{needs}
 use Rattle.filequestions.proofs.evaluate_file.Statement.{statement}
 use Rattle.filequestions.proofs.evaluate_file.Tie as tie
-use Rattle.filequestions.proofs.evaluate_file.Reads as reads
-use Rattle.filequestions.proofs.evaluate_file.Lts as lts
-use Rattle.doubles.proofs.in_millimetres.Reads as in-millimetres-reads
-use Rattle.filequestions.proofs.judge_file.Reads as judge-file-reads
 
 judge-file-requires : tie.Need-judge-file-requires
 judge-file-requires c κs = search needs

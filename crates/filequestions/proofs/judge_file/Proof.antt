@@ -3,11 +3,6 @@ use Rattle.filequestions.proofs.Ways.{file-refused, file-judged}
 use borrow.Author.Needs.{needs}
 use Rattle.filequestions.proofs.judge_file.Statement.{statement}
 use Rattle.filequestions.proofs.judge_file.Tie as tie
-use Rattle.filequestions.proofs.judge_file.Reads as reads
-use Rattle.filequestions.proofs.judge_file.Lts as lts
-use Rattle.evaluation.proofs.not_judged.Reads as not-judged-reads
-use Rattle.filebook.proofs.read_book.Reads as read-book-reads
-use Rattle.questions.proofs.judge.Reads as judge-reads
 
 read-book-requires : tie.Need-read-book-requires
 read-book-requires c κs = search needs

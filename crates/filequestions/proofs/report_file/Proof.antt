@@ -4,10 +4,6 @@ use Rattle.filequestions.proofs.Numbers.{file-prints, printed-is, print
 use borrow.Author.Needs.{needs}
 use Rattle.filequestions.proofs.report_file.Statement.{statement}
 use Rattle.filequestions.proofs.report_file.Tie as tie
-use Rattle.filequestions.proofs.report_file.Reads as reads
-use Rattle.filequestions.proofs.report_file.Lts as lts
-use Rattle.filequestions.proofs.judge_file.Reads as judge-file-reads
-use Rattle.report.proofs.report.Reads as report-reads
 
 judge-file-requires : tie.Need-judge-file-requires
 judge-file-requires c κs = search needs

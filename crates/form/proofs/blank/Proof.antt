@@ -5,9 +5,6 @@ use Rattle.form.specs.Whole.{blank}
 use borrow.Author.Needs.{needs}
 use Rattle.form.proofs.blank.Statement.{statement}
 use Rattle.form.proofs.blank.Tie as tie
-use Rattle.form.proofs.blank.Reads as reads
-use Rattle.form.proofs.blank.Lts as lts
-use Rattle.form.proofs.zero_from.Reads as zero-from-reads
 
 zero-from-requires : tie.Need-zero-from-requires
 zero-from-requires c κs = search needs

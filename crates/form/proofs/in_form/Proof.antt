@@ -2,10 +2,6 @@ use Rattle.form.proofs.Whole.{form-closed, form-open, form-neither}
 use borrow.Author.Needs.{needs}
 use Rattle.form.proofs.in_form.Statement.{statement}
 use Rattle.form.proofs.in_form.Tie as tie
-use Rattle.form.proofs.in_form.Reads as reads
-use Rattle.form.proofs.in_form.Lts as lts
-use Rattle.form.proofs.blank.Reads as blank-reads
-use Rattle.form.proofs.sound.Reads as sound-reads
 
 blank-requires : tie.Need-blank-requires
 blank-requires c κs = search needs

@@ -2,11 +2,6 @@ use Rattle.form.proofs.Whole.{sound-many, sound-is}
 use borrow.Author.Needs.{needs}
 use Rattle.form.proofs.sound.Statement.{statement}
 use Rattle.form.proofs.sound.Tie as tie
-use Rattle.form.proofs.sound.Reads as reads
-use Rattle.form.proofs.sound.Lts as lts
-use Rattle.form.proofs.zero_from.Reads as zero-from-reads
-use Rattle.standing.proofs.all_stand.Reads as all-stand-reads
-use Rattle.ranges.proofs.in_range.Reads as in-range-reads
 
 returns : tie.Need-returns
 returns c =

@@ -7,8 +7,6 @@ use Rattle.image.specs.Changes.{zeros}
 use Rattle.form.proofs.Turns.{zeros-on, zeros-stop, zeros-end}
 use Rattle.form.proofs.zero_from.Statement.{statement}
 use Rattle.form.proofs.zero_from.Tie as tie
-use Rattle.form.proofs.zero_from.Reads as reads
-use Rattle.form.proofs.zero_from.Lts as lts
 
 abbrev Inv-loop : tie.InvT-loop
 Inv-loop l from i₀ i =

@@ -1,16 +1,14 @@
-use mathlib.Core.Path.{_≡_, refl, sym, _∙_}
+use mathlib.Core.Path.{_≡_, _∙_}
 use native.Mathlib.Omega.{arith}
-use lib.IntN.{ℤ, pos, _-ℤ_}
+use lib.IntN.{pos}
 use mir.Syntax.{w64}
-use mir.Val.{toZ, ofZ}
+use mir.Val.{toZ}
 use mir.ValLaws.{toZ-ofZ, toZ-pos}
 use Rattle.integers.specs.Diff.{mag-sub, minus-sub}
-use Rattle.image.specs.Lengths.{len}
+use Rattle.image.specs.Lengths.{ORIGIN, len}
 use borrow.Author.Needs.{needs}
 use Rattle.image.proofs.length_of.Statement.{statement}
 use Rattle.image.proofs.length_of.Tie as tie
-use Rattle.image.proofs.length_of.Reads as reads
-use Rattle.image.proofs.length_of.Lts as lts
 
 -- the bits of w, read as signed, are w
 same : (c : tie.Start) → toZ w64 (c .args .w) ≡ pos (c .args .w)
@@ -21,12 +19,12 @@ cast-result c = search needs
 
 sub-result : tie.Need-sub-result
 sub-result c =
-    rw (same c) (record { sfits = mag-sub (c .args .w) 1000000000000 _ (omega arith) (omega arith) })
+    rw (same c) (record { sfits = mag-sub (c .args .w) ORIGIN _ (omega arith) (omega arith) })
 
 returns : tie.Need-returns
 unfolding len
 returns c =
-    toZ-ofZ w64 _ (sub-result c) ∙ rw (same c) (minus-sub (c .args .w) 1000000000000)
+    toZ-ofZ w64 _ (sub-result c) ∙ rw (same c) (minus-sub (c .args .w) ORIGIN)
 
 pub length-of-spec : {M : Type 1} → statement M
 length-of-spec = tie.close (tie.spec cast-result sub-result returns)

@@ -4,8 +4,6 @@ use Rattle.image.specs.Places.{placeOf}
 use borrow.Author.Needs.{needs}
 use Rattle.image.proofs.place_of.Statement.{statement}
 use Rattle.image.proofs.place_of.Tie as tie
-use Rattle.image.proofs.place_of.Reads as reads
-use Rattle.image.proofs.place_of.Lts as lts
 
 returns : tie.Need-returns
 unfolding placeOf inSheet

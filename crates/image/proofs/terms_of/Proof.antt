@@ -2,9 +2,6 @@ use Rattle.image.proofs.Lengths.{twelve-words, repaired}
 use borrow.Author.Needs.{needs}
 use Rattle.image.proofs.terms_of.Statement.{statement}
 use Rattle.image.proofs.terms_of.Tie as tie
-use Rattle.image.proofs.terms_of.Reads as reads
-use Rattle.image.proofs.terms_of.Lts as lts
-use Rattle.image.proofs.word_of.Reads as word-of-reads
 
 word-of-requires : tie.Need-word-of-requires
 word-of-requires c κs = search needs

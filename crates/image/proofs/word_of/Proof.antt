@@ -1,4 +1,4 @@
-use mathlib.Core.Path.{_≡_, refl, sym, _∙_}
+use mathlib.Core.Path.{sym, _∙_}
 use native.Mathlib.Omega.{arith}
 use Prim.Native.Nat.{_≤_, _<_}
 use lib.IntN.{ℤ, natAbs}
@@ -6,12 +6,10 @@ use mir.Syntax.{w64}
 use mir.ValLaws.{toZ-ofZ}
 use Rattle.integers.specs.Diff.{lt-yes, lt-no, abs-le, abs-below, abs-above}
 use Rattle.integers.specs.Machine.{up-fits, up-cast, up-reads}
-use Rattle.image.specs.Lengths.{word}
+use Rattle.image.specs.Lengths.{ORIGIN, word}
 use Rattle.image.proofs.Lengths.{wordOr-word, wordOr-far}
 use Rattle.image.proofs.word_of.Statement.{statement}
 use Rattle.image.proofs.word_of.Tie as tie
-use Rattle.image.proofs.word_of.Reads as reads
-use Rattle.image.proofs.word_of.Lts as lts
 
 returns : tie.Need-returns
 returns c =
@@ -34,17 +32,17 @@ module _ (c : tie.Else2) where
 
 add-result : tie.Need-add-result
 add-result c =
-    up-fits (x c) 999999999999 1000000000000 (c .before .before .fits .x) (near c) (omega arith) (omega arith)
+    up-fits (x c) 999999999999 ORIGIN (c .before .before .fits .x) (near c) (omega arith) (omega arith)
 
 cast-result : tie.Need-cast-result
 cast-result c =
-    up-cast (x c) 999999999999 1000000000000 (c .before .before .fits .x) (near c) (omega arith) (omega arith)
+    up-cast (x c) 999999999999 ORIGIN (c .before .before .fits .x) (near c) (omega arith) (omega arith)
 
 returns-3 : tie.Need-returns-3
 unfolding word
 returns-3 c =
-    let h : natAbs (x c) < 1000000000000 = omega (arith, near c) in
-    up-reads (x c) 999999999999 1000000000000 (c .before .before .fits .x) (near c) (omega arith) (omega arith) ∙ sym (wordOr-word (x c) h)
+    let h : natAbs (x c) < ORIGIN = omega (arith, near c) in
+    up-reads (x c) 999999999999 ORIGIN (c .before .before .fits .x) (near c) (omega arith) (omega arith) ∙ sym (wordOr-word (x c) h)
 
 pub word-of-spec : {M : Type 1} → statement M
 word-of-spec = tie.close (tie.spec returns returns-2 add-result cast-result returns-3)

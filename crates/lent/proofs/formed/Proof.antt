@@ -8,9 +8,6 @@ use Rattle.lent.proofs.Image.{formLeft, form-on, form-stop, form-end, f
 use borrow.Author.Needs.{needs}
 use Rattle.lent.proofs.formed.Statement.{statement}
 use Rattle.lent.proofs.formed.Tie as tie
-use Rattle.lent.proofs.formed.Reads as reads
-use Rattle.lent.proofs.formed.Lts as lts
-use Rattle.stored.proofs.in_form.Reads as in-form-reads
 
 abbrev Inv-loop : tie.InvT-loop
 Inv-loop register k₀ k =

@@ -3,10 +3,6 @@ use Rattle.lent.specs.Calls.{foundOf}
 use borrow.Author.Needs.{needs}
 use Rattle.lent.proofs.found.Statement.{statement}
 use Rattle.lent.proofs.found.Tie as tie
-use Rattle.lent.proofs.found.Reads as reads
-use Rattle.lent.proofs.found.Lts as lts
-use Rattle.lent.proofs.formed.Reads as formed-reads
-use Rattle.lent.proofs.picked.Reads as picked-reads
 
 picked-requires : tie.Need-picked-requires
 picked-requires c κs = search needs

@@ -1,8 +1,6 @@
 use borrow.Author.Tests.{le-leb, lt-leb}
 use Rattle.lent.proofs.is_book.Statement.{statement}
 use Rattle.lent.proofs.is_book.Tie as tie
-use Rattle.lent.proofs.is_book.Reads as reads
-use Rattle.lent.proofs.is_book.Lts as lts
 
 returns : tie.Need-returns
 returns c =

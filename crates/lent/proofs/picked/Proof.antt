@@ -7,11 +7,6 @@ use Rattle.lent.specs.Calls.{pickedOf}
 use borrow.Author.Needs.{needs}
 use Rattle.lent.proofs.picked.Statement.{statement}
 use Rattle.lent.proofs.picked.Tie as tie
-use Rattle.lent.proofs.picked.Reads as reads
-use Rattle.lent.proofs.picked.Lts as lts
-use Rattle.book.proofs.closed.Reads as closed-reads
-use Rattle.lent.proofs.is_book.Reads as is-book-reads
-use Rattle.stored.proofs.load.Reads as load-reads
 
 closed-requires : tie.Need-closed-requires
 closed-requires c κs = search needs

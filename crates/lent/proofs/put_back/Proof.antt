@@ -3,10 +3,6 @@ use Rattle.lent.proofs.Calls.{away-not, kept-back, written}
 use borrow.Author.Needs.{needs}
 use Rattle.lent.proofs.put_back.Statement.{statement}
 use Rattle.lent.proofs.put_back.Tie as tie
-use Rattle.lent.proofs.put_back.Reads as reads
-use Rattle.lent.proofs.put_back.Lts as lts
-use Rattle.stored.proofs.store.Reads as store-reads
-use Rattle.lent.proofs.turned_away.Reads as turned-away-reads
 
 turned-away-requires : tie.Need-turned-away-requires
 turned-away-requires c κs = search needs

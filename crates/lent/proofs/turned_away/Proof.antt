@@ -4,9 +4,6 @@ use Rattle.lent.specs.Calls.{turnedAway}
 use borrow.Author.Needs.{needs}
 use Rattle.lent.proofs.turned_away.Statement.{statement}
 use Rattle.lent.proofs.turned_away.Tie as tie
-use Rattle.lent.proofs.turned_away.Reads as reads
-use Rattle.lent.proofs.turned_away.Lts as lts
-use Rattle.lent.proofs.is_book.Reads as is-book-reads
 
 returns : tie.Need-returns
 unfolding turnedAway

@@ -2,12 +2,13 @@
 use Prim.Native.Nat.{_-_, _≤_}
 use native.Mathlib.Omega.{arith}
 use borrow.Author.Needs.{needs}
+use Rattle.image.specs.Lengths.{ORIGIN}
 use Rattle.limits.proofs.Limits.{squared, limit-is}
 use Rattle.limits.proofs.limit.Statement.{statement}
 use Rattle.limits.proofs.limit.Tie as tie
 
 -- a screening length is at most 10,000
-least : (c : tie.Start) → c .args .s - 1000000000000 ≤ 10000
+least : (c : tie.Start) → c .args .s - ORIGIN ≤ 10000
 least c = omega (arith, c .pre)
 
 sub-k : tie.Need-sub-k
@@ -21,7 +22,7 @@ mul-result-2 c = omega (arith, squared (least c))
 
 returns : tie.Need-returns
 returns c =
-    let low : 1000000000000 ≤ c .args .s = omega arith in
+    let low : ORIGIN ≤ c .args .s = omega arith in
     (limit-is (c .args .s) low, omega (arith, squared (least c)))
 
 pub limit-spec : {M : Type 1} → statement M

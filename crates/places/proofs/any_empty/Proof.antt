@@ -9,9 +9,6 @@ use Rattle.image.specs.Places.{placesOf}
 use Rattle.places.proofs.Turns.{emptyFrom, empty-start, empty-on, empty-stop, empty-end}
 use Rattle.places.proofs.any_empty.Statement.{statement}
 use Rattle.places.proofs.any_empty.Tie as tie
-use Rattle.places.proofs.any_empty.Reads as reads
-use Rattle.places.proofs.any_empty.Lts as lts
-use Rattle.places.proofs.empty_at.Reads as empty-at-reads
 
 abbrev Inv-loop : tie.InvT-loop
 Inv-loop cells p₀ p =

@@ -3,9 +3,6 @@ use Rattle.image.proofs.Places.{empty-spot}
 use borrow.Author.Needs.{needs}
 use Rattle.places.proofs.empty_at.Statement.{statement}
 use Rattle.places.proofs.empty_at.Tie as tie
-use Rattle.places.proofs.empty_at.Reads as reads
-use Rattle.places.proofs.empty_at.Lts as lts
-use Rattle.places.proofs.all_zero.Reads as all-zero-reads
 
 mul-m : tie.Need-mul-m
 mul-m c = search needs

@@ -2,9 +2,6 @@ use mathlib.Core.Path.{sym, _∙_}
 use borrow.Author.Needs.{needs}
 use Rattle.places.proofs.mark.Statement.{statement}
 use Rattle.places.proofs.mark.Tie as tie
-use Rattle.places.proofs.mark.Reads as reads
-use Rattle.places.proofs.mark.Lts as lts
-use Rattle.places.proofs.all_zero.Reads as all-zero-reads
 
 all-zero-requires : tie.Need-all-zero-requires
 all-zero-requires c κs = search needs

@@ -3,9 +3,6 @@ use Rattle.image.proofs.Places.{empty-spot}
 use borrow.Author.Needs.{needs}
 use Rattle.places.proofs.mark_at.Statement.{statement}
 use Rattle.places.proofs.mark_at.Tie as tie
-use Rattle.places.proofs.mark_at.Reads as reads
-use Rattle.places.proofs.mark_at.Lts as lts
-use Rattle.places.proofs.mark.Reads as mark-reads
 
 mul-m : tie.Need-mul-m
 mul-m c = search needs

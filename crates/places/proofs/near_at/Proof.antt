@@ -2,10 +2,6 @@ use Rattle.places.proofs.Laws.{spot-near}
 use borrow.Author.Needs.{needs}
 use Rattle.places.proofs.near_at.Statement.{statement}
 use Rattle.places.proofs.near_at.Tie as tie
-use Rattle.places.proofs.near_at.Reads as reads
-use Rattle.places.proofs.near_at.Lts as lts
-use Rattle.places.proofs.empty_at.Reads as empty-at-reads
-use Rattle.ranges.proofs.near.Reads as near-reads
 
 mul-m : tie.Need-mul-m
 mul-m c = search needs

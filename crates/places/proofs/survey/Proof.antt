@@ -13,10 +13,6 @@ use Rattle.places.proofs.Turns.{nearFrom, near-start, near-set, near-en
 use Rattle.places.proofs.Marks.{MarksTo, marks-set, marks-all}
 use Rattle.places.proofs.survey.Statement.{statement}
 use Rattle.places.proofs.survey.Tie as tie
-use Rattle.places.proofs.survey.Reads as reads
-use Rattle.places.proofs.survey.Lts as lts
-use Rattle.places.proofs.mark_at.Reads as mark-at-reads
-use Rattle.places.proofs.near_at.Reads as near-at-reads
 
 abbrev Inv-loop : tie.InvT-loop
 Inv-loop t cells marks₀ near₀ set₀ marks near set =

@@ -3,9 +3,6 @@ use Rattle.ranges.proofs.Laws.{both}
 use borrow.Author.Needs.{needs}
 use Rattle.ranges.proofs.around.Statement.{statement}
 use Rattle.ranges.proofs.around.Tie as tie
-use Rattle.ranges.proofs.around.Reads as reads
-use Rattle.ranges.proofs.around.Lts as lts
-use Rattle.ranges.proofs.close.Reads as close-reads
 
 -- src/lib.rt:35:5
 close-requires : tie.Need-close-requires

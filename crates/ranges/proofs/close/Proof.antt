@@ -1,10 +1,7 @@
-use Prim.Native.Nat.{_-_}
 use borrow.Author.Needs.{needs}
 use Rattle.ranges.proofs.Laws.{close-less, close-more}
 use Rattle.ranges.proofs.close.Statement.{statement}
 use Rattle.ranges.proofs.close.Tie as tie
-use Rattle.ranges.proofs.close.Reads as reads
-use Rattle.ranges.proofs.close.Lts as lts
 
 sub-result : tie.Need-sub-result
 sub-result c = search needs

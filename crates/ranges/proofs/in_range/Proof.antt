@@ -3,11 +3,6 @@ use Rattle.ranges.proofs.Laws.{both, from-zero, range-is}
 use borrow.Author.Needs.{needs}
 use Rattle.ranges.proofs.in_range.Statement.{statement}
 use Rattle.ranges.proofs.in_range.Tie as tie
-use Rattle.ranges.proofs.in_range.Reads as reads
-use Rattle.ranges.proofs.in_range.Lts as lts
-use Rattle.ranges.proofs.close.Reads as close-reads
-use Rattle.ranges.proofs.one_to.Reads as one-to-reads
-use Rattle.ranges.proofs.points_ok.Reads as points-ok-reads
 
 -- src/lib.rt:57:20
 element-copy-out-one-to : tie.Need-element-copy-out-one-to

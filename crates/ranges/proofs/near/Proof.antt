@@ -4,9 +4,6 @@ use Rattle.ranges.proofs.Laws.{near-at-point}
 use borrow.Author.Needs.{needs}
 use Rattle.ranges.proofs.near.Statement.{statement}
 use Rattle.ranges.proofs.near.Tie as tie
-use Rattle.ranges.proofs.near.Reads as reads
-use Rattle.ranges.proofs.near.Lts as lts
-use Rattle.ranges.proofs.around.Reads as around-reads
 
 mul-k : tie.Need-mul-k
 mul-k c = search needs

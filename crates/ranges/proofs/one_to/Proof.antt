@@ -2,8 +2,6 @@ use Rattle.ranges.proofs.Laws.{one-is}
 use borrow.Author.Needs.{needs}
 use Rattle.ranges.proofs.one_to.Statement.{statement}
 use Rattle.ranges.proofs.one_to.Tie as tie
-use Rattle.ranges.proofs.one_to.Reads as reads
-use Rattle.ranges.proofs.one_to.Lts as lts
 
 -- src/lib.rt:18:24
 add-result : tie.Need-add-result

@@ -4,9 +4,6 @@ use Rattle.ranges.proofs.Laws.{both, earth}
 use borrow.Author.Needs.{needs}
 use Rattle.ranges.proofs.points_ok.Statement.{statement}
 use Rattle.ranges.proofs.points_ok.Tie as tie
-use Rattle.ranges.proofs.points_ok.Reads as reads
-use Rattle.ranges.proofs.points_ok.Lts as lts
-use Rattle.ranges.proofs.around.Reads as around-reads
 
 -- src/lib.rt:42:13
 element-copy-out-x : tie.Need-element-copy-out-x

@@ -5,10 +5,6 @@ use Rattle.readings.proofs.Asks.{count-unformed, count-closed, count-op
 use borrow.Author.Needs.{needs}
 use Rattle.readings.proofs.changes.Statement.{statement}
 use Rattle.readings.proofs.changes.Tie as tie
-use Rattle.readings.proofs.changes.Reads as reads
-use Rattle.readings.proofs.changes.Lts as lts
-use Rattle.book.proofs.in_form.Reads as in-form-reads
-use Rattle.readings.proofs.no_count.Reads as no-count-reads
 
 sized : (s : tie.Start) → Sized (s .args .b)
 sized s = record { terms-12 = search needs; cells-90 = search needs; changes-128 = search needs }

@@ -12,11 +12,6 @@ use Rattle.readings.proofs.Asks.{read-refused, read-on, read-full, read
 use borrow.Author.Needs.{needs}
 use Rattle.readings.proofs.read.Statement.{statement}
 use Rattle.readings.proofs.read.Tie as tie
-use Rattle.readings.proofs.read.Reads as reads
-use Rattle.readings.proofs.read.Lts as lts
-use Rattle.book.proofs.Book.sought.Reads as sought-reads
-use Rattle.image.proofs.length_of.Reads as length-of-reads
-use Rattle.readings.proofs.no_lengths.Reads as no-lengths-reads
 
 sized : (s : tie.Start) → Sized (s .args .b)
 sized s = record { terms-12 = search needs; cells-90 = search needs; changes-128 = search needs }

@@ -2,9 +2,6 @@ use Rattle.form.proofs.Laws.{known}
 use borrow.Author.Needs.{needs}
 use Rattle.register.proofs.rtk_check.Statement.{statement}
 use Rattle.register.proofs.rtk_check.Tie as tie
-use Rattle.register.proofs.rtk_check.Reads as reads
-use Rattle.register.proofs.rtk_check.Lts as lts
-use Rattle.lent.proofs.formed.Reads as formed-reads
 
 formed-requires : tie.Need-formed-requires
 formed-requires c κs = search needs

@@ -2,9 +2,6 @@ use Rattle.register.proofs.Ways.{fresh-refused, fresh-done}
 use borrow.Author.Needs.{needs}
 use Rattle.register.proofs.rtk_fresh.Statement.{statement}
 use Rattle.register.proofs.rtk_fresh.Tie as tie
-use Rattle.register.proofs.rtk_fresh.Reads as reads
-use Rattle.register.proofs.rtk_fresh.Lts as lts
-use Rattle.listing.proofs.clear.Reads as clear-reads
 
 returns : tie.Need-returns
 returns c =

@@ -7,12 +7,6 @@ use Rattle.register.proofs.Ways.{list-unformed, list-room, list-written
 use borrow.Author.Needs.{needs}
 use Rattle.register.proofs.rtk_pass_list.Statement.{statement}
 use Rattle.register.proofs.rtk_pass_list.Tie as tie
-use Rattle.register.proofs.rtk_pass_list.Reads as reads
-use Rattle.register.proofs.rtk_pass_list.Lts as lts
-use Rattle.readings.proofs.no_count.Reads as no-count-reads
-use Rattle.lent.proofs.formed.Reads as formed-reads
-use Rattle.listing.proofs.listed.Reads as listed-reads
-use Rattle.listing.proofs.write.Reads as write-reads
 
 formed-requires : tie.Need-formed-requires
 formed-requires c κs = search needs

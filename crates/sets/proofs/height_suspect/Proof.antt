@@ -3,6 +3,7 @@ use Prim.Native.Nat.{_+_, _≤_}
 use native.Mathlib.Omega.{arith}
 use lib.ListN.{getD}
 use borrow.Author.Needs.{needs}
+use Rattle.image.specs.Lengths.{ORIGIN}
 use Rattle.sets.specs.Words.{Near}
 use Rattle.sets.proofs.Sets.{bounds, height-is}
 use Rattle.sets.proofs.height_suspect.Statement.{statement}
@@ -59,7 +60,7 @@ returns : tie.Need-returns
 returns c =
     let s = c .before .before .before .before .before .before .before in
     let m = c .before .before .before .before .before .before .words-from .result in
-    let h : getD (s .args .cells .now) (m + 2) 0 ≤ getD (s .args .cells .now) (m + 5) 0 + 1000000000000 = omega (arith, near (c .before .before .before .before .before .before)) in
+    let h : getD (s .args .cells .now) (m + 2) 0 ≤ getD (s .args .cells .now) (m + 5) 0 + ORIGIN = omega (arith, near (c .before .before .before .before .before .before)) in
     height-is (s .args .terms .now) (s .args .cells .now) (s .pre .4) (s .args .series) (s .args .set) (s .pre .0) (s .pre .1) (s .pre .2) (s .pre .3) m (c .before .before .before .before .before .before .words-from .ensures) _ _ h (c .before .before .apart .ensures .0) (c .beyond .ensures)
 
 pub height-suspect-spec : {M : Type 1} → statement M

@@ -10,11 +10,6 @@ use Rattle.image.specs.Places.{placesOf}
 use Rattle.standing.proofs.Turns.{Stands, stands-start, stands-reaches, stands-on, stands-stop, stands-end}
 use Rattle.standing.proofs.all_stand.Statement.{statement}
 use Rattle.standing.proofs.all_stand.Tie as tie
-use Rattle.standing.proofs.all_stand.Reads as reads
-use Rattle.standing.proofs.all_stand.Lts as lts
-use Rattle.places.proofs.mark.Reads as mark-reads
-use Rattle.places.proofs.survey.Reads as survey-reads
-use Rattle.standing.proofs.change_ok.Reads as change-ok-reads
 
 abbrev Inv-loop : tie.InvT-loop
 Inv-loop t cells kept changes n marks₀ near j₀ marks j = (j ≤ n) × Stands (termsOf t) (placesOf cells) changes n marks j

@@ -3,10 +3,6 @@ use Rattle.standing.proofs.Marked.{marked-outside, marked-empty, marked
 use borrow.Author.Needs.{needs}
 use Rattle.standing.proofs.change_ok.Statement.{statement}
 use Rattle.standing.proofs.change_ok.Tie as tie
-use Rattle.standing.proofs.change_ok.Reads as reads
-use Rattle.standing.proofs.change_ok.Lts as lts
-use Rattle.places.proofs.all_zero.Reads as all-zero-reads
-use Rattle.ranges.proofs.near.Reads as near-reads
 
 returns : tie.Need-returns
 returns c =

@@ -3,10 +3,6 @@ use Rattle.book.specs.Meaning.{bookForm}
 use borrow.Author.Needs.{needs}
 use Rattle.stored.proofs.in_form.Statement.{statement}
 use Rattle.stored.proofs.in_form.Tie as tie
-use Rattle.stored.proofs.in_form.Reads as reads
-use Rattle.stored.proofs.in_form.Lts as lts
-use Rattle.form.proofs.in_form.Reads as in-form-reads
-use Rattle.stored.proofs.load.Reads as load-reads
 
 load-requires : tie.Need-load-requires
 load-requires c κs = search needs

@@ -2,10 +2,6 @@ use Rattle.stored.proofs.Stored.{book-eq}
 use borrow.Author.Needs.{needs}
 use Rattle.stored.proofs.load.Statement.{statement}
 use Rattle.stored.proofs.load.Tie as tie
-use Rattle.stored.proofs.load.Reads as reads
-use Rattle.stored.proofs.load.Lts as lts
-use Rattle.words.proofs.load_at.Reads as load-at-reads
-use Rattle.words.proofs.word_at.Reads as word-at-reads
 
 word-at-requires : tie.Need-word-at-requires
 word-at-requires c κs = search needs

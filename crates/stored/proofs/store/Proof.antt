@@ -3,10 +3,6 @@ use Rattle.stored.proofs.Stored.{stored}
 use borrow.Author.Needs.{needs}
 use Rattle.stored.proofs.store.Statement.{statement}
 use Rattle.stored.proofs.store.Tie as tie
-use Rattle.stored.proofs.store.Reads as reads
-use Rattle.stored.proofs.store.Lts as lts
-use Rattle.stored.proofs.store_both.Reads as store-both-reads
-use Rattle.words.proofs.store_at.Reads as store-at-reads
 
 store-both-requires : tie.Need-store-both-requires
 store-both-requires c κs = search needs

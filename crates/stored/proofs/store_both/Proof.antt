@@ -2,10 +2,6 @@ use Rattle.stored.proofs.Stored.{both}
 use borrow.Author.Needs.{needs}
 use Rattle.stored.proofs.store_both.Statement.{statement}
 use Rattle.stored.proofs.store_both.Tie as tie
-use Rattle.stored.proofs.store_both.Reads as reads
-use Rattle.stored.proofs.store_both.Lts as lts
-use Rattle.words.proofs.paste_word.Reads as paste-word-reads
-use Rattle.words.proofs.store_at.Reads as store-at-reads
 
 paste-word-requires : tie.Need-paste-word-requires
 paste-word-requires c κs = search needs

@@ -8,10 +8,6 @@ use Rattle.book.specs.Steps.{aimOf}
 use borrow.Author.Needs.{needs}
 use Rattle.book.proofs.Book.aim.Statement.{statement}
 use Rattle.book.proofs.Book.aim.Tie as tie
-use Rattle.book.proofs.Book.aim.Reads as reads
-use Rattle.book.proofs.Book.aim.Lts as lts
-use Rattle.book.proofs.in_form.Reads as in-form-reads
-use Rattle.image.proofs.place_of.Reads as place-of-reads
 
 in-form-requires : tie.Need-in-form-requires
 in-form-requires c κs = search needs

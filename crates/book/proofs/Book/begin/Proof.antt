@@ -8,10 +8,6 @@ use Rattle.book.proofs.Steps.{begin-given}
 use borrow.Author.Needs.{needs}
 use Rattle.book.proofs.Book.begin.Statement.{statement}
 use Rattle.book.proofs.Book.begin.Tie as tie
-use Rattle.book.proofs.Book.begin.Reads as reads
-use Rattle.book.proofs.Book.begin.Lts as lts
-use Rattle.book.proofs.Book.begin_words.Reads as begin-words-reads
-use Rattle.image.proofs.terms_of.Reads as terms-of-reads
 
 given-same : (a b c d e f g h i j k l a′ b′ c′ d′ e′ f′ g′ h′ i′ j′ k′ l′ : ℤ)
     → a ≡ a′ → b ≡ b′ → c ≡ c′ → d ≡ d′ → e ≡ e′ → f ≡ f′ → g ≡ g′ → h ≡ h′ → i ≡ i′ → j ≡ j′ → k ≡ k′ → l ≡ l′

@@ -7,11 +7,6 @@ use Rattle.book.proofs.Steps.{step-unformed, begin-open, begin-range, b
 use borrow.Author.Needs.{needs}
 use Rattle.book.proofs.Book.begin_words.Statement.{statement}
 use Rattle.book.proofs.Book.begin_words.Tie as tie
-use Rattle.book.proofs.Book.begin_words.Reads as reads
-use Rattle.book.proofs.Book.begin_words.Lts as lts
-use Rattle.book.proofs.begun.Reads as begun-reads
-use Rattle.book.proofs.in_form.Reads as in-form-reads
-use Rattle.ranges.proofs.in_range.Reads as in-range-reads
 
 sized : (s : tie.Start) → Sized (s .args .self)
 sized s = record { terms-12 = search needs; cells-90 = search needs; changes-128 = search needs }

@@ -4,11 +4,6 @@ use Rattle.book.proofs.Meaning.{book-parts}
 use borrow.Author.Needs.{needs}
 use Rattle.book.proofs.Book.changed.Statement.{statement}
 use Rattle.book.proofs.Book.changed.Tie as tie
-use Rattle.book.proofs.Book.changed.Reads as reads
-use Rattle.book.proofs.Book.changed.Lts as lts
-use Rattle.changes.proofs.keep.Reads as keep-reads
-use Rattle.changes.proofs.one_more.Reads as one-more-reads
-use Rattle.placing.proofs.put.Reads as put-reads
 
 keep-requires : tie.Need-keep-requires
 keep-requires c κs = search needs

@@ -3,11 +3,6 @@ use Rattle.book.proofs.Steps.{placed-refused, placed-near, placed-far}
 use borrow.Author.Needs.{needs}
 use Rattle.book.proofs.Book.placed.Statement.{statement}
 use Rattle.book.proofs.Book.placed.Tie as tie
-use Rattle.book.proofs.Book.placed.Reads as reads
-use Rattle.book.proofs.Book.placed.Lts as lts
-use Rattle.book.proofs.Book.changed.Reads as changed-reads
-use Rattle.image.proofs.word_of.Reads as word-of-reads
-use Rattle.ranges.proofs.near.Reads as near-reads
 
 returns : tie.Need-returns
 returns c =

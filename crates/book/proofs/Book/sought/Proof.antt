@@ -7,10 +7,6 @@ use Rattle.book.proofs.Steps.{aim-on, place-small, sought-before, sough
 use borrow.Author.Needs.{needs}
 use Rattle.book.proofs.Book.sought.Statement.{statement}
 use Rattle.book.proofs.Book.sought.Tie as tie
-use Rattle.book.proofs.Book.sought.Reads as reads
-use Rattle.book.proofs.Book.sought.Lts as lts
-use Rattle.book.proofs.Book.aim.Reads as aim-reads
-use Rattle.places.proofs.empty_at.Reads as empty-at-reads
 
 sized : (s : tie.Start) → Sized (s .args .self)
 sized s = record { terms-12 = search needs; cells-90 = search needs; changes-128 = search needs }

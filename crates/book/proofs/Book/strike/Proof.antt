@@ -4,10 +4,6 @@ use Rattle.book.proofs.Steps.{step-unformed, strike-closed, struck}
 use borrow.Author.Needs.{needs}
 use Rattle.book.proofs.Book.strike.Statement.{statement}
 use Rattle.book.proofs.Book.strike.Tie as tie
-use Rattle.book.proofs.Book.strike.Reads as reads
-use Rattle.book.proofs.Book.strike.Lts as lts
-use Rattle.book.proofs.closed.Reads as closed-reads
-use Rattle.book.proofs.in_form.Reads as in-form-reads
 
 sized : (s : tie.Start) → Sized (s .args .self)
 sized s = record { terms-12 = search needs; cells-90 = search needs; changes-128 = search needs }

@@ -9,10 +9,6 @@ use Rattle.book.proofs.Steps.{step-unformed, back-closed, step-nothing,
 use borrow.Author.Needs.{needs}
 use Rattle.book.proofs.Book.take_back.Statement.{statement}
 use Rattle.book.proofs.Book.take_back.Tie as tie
-use Rattle.book.proofs.Book.take_back.Reads as reads
-use Rattle.book.proofs.Book.take_back.Lts as lts
-use Rattle.book.proofs.Book.undone.Reads as undone-reads
-use Rattle.book.proofs.in_form.Reads as in-form-reads
 
 sized : (s : tie.Start) → Sized (s .args .self)
 sized s = record { terms-12 = search needs; cells-90 = search needs; changes-128 = search needs }

@@ -4,10 +4,6 @@ use Rattle.book.proofs.Meaning.{book-parts}
 use borrow.Author.Needs.{needs}
 use Rattle.book.proofs.Book.undone.Statement.{statement}
 use Rattle.book.proofs.Book.undone.Tie as tie
-use Rattle.book.proofs.Book.undone.Reads as reads
-use Rattle.book.proofs.Book.undone.Lts as lts
-use Rattle.changes.proofs.pop.Reads as pop-reads
-use Rattle.placing.proofs.take_back.Reads as take-back-reads
 
 take-back-requires : tie.Need-take-back-requires
 take-back-requires c κs = search needs

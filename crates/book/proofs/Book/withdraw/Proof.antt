@@ -7,10 +7,6 @@ use Rattle.book.proofs.Steps.{sought-small, withdraw-refused, withdrawn
 use borrow.Author.Needs.{needs}
 use Rattle.book.proofs.Book.withdraw.Statement.{statement}
 use Rattle.book.proofs.Book.withdraw.Tie as tie
-use Rattle.book.proofs.Book.withdraw.Reads as reads
-use Rattle.book.proofs.Book.withdraw.Lts as lts
-use Rattle.book.proofs.Book.changed.Reads as changed-reads
-use Rattle.book.proofs.Book.sought.Reads as sought-reads
 
 sized : (s : tie.Start) → Sized (s .args .self)
 sized s = record { terms-12 = search needs; cells-90 = search needs; changes-128 = search needs }
