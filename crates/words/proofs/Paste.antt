@@ -2,7 +2,7 @@
 -- Assumes nothing.
 use mathlib.Core.Path.{_≡_, refl, sym, ap, _∙_}
 use mathlib.Core.List.{List, [], _∷_, _++_, append-assoc, append-nil}
-use Prim.Native.Nat.{ℕ, zero, suc, _+_, _*_, _^_, _≤_, _<_}
+use Prim.Native.Nat.{ℕ, zero, suc, _+_, _*_, _/_, _^_, _≤_, _<_}
 use native.Mathlib.Numerals.{add-one, unary-clauses}
 use native.Mathlib.Omega.{arith}
 use native.Mathlib.Nat.{add-zero, zero-add, suc-add, mul-suc}
@@ -10,7 +10,7 @@ use lib.ListN.{set, length, take, drop, getD, length-append, take-append-drop}
 use lib.Seq.{length-take-le, take-at, drop-at, drop-append-add, drop-drop, take-suc, take-nil, take-take, sets-eq}
 use Rattle.words.specs.Words.{le, digits, words, bytesOf}
 use Rattle.words.specs.Paste.{pasted}
-use Rattle.words.proofs.Words.{load-turn, le-digits, bytesOf-append, length-bytesOf, length-digits}
+use Rattle.words.proofs.Words.{load-turn, le-digits, bytesOf-append, length-bytesOf, length-digits, digits-parts}
 
 pub pasted-nil : (r : List ℕ) (a : ℕ) → pasted r a [] ≡ r
 unfolding pasted
@@ -28,6 +28,13 @@ pasted-then r a xs p ys e h =
     rw (f, take-at (take a r ++ xs) (drop p r) p l, g, m, append-assoc, append-assoc)
 
 -- ---- words
+
+-- a word in halves
+pub halves-pasted : (l : List ℕ) (at w : ℕ) → at + 8 ≤ length l
+    → pasted (pasted l at (digits 4 w)) (at + 4) (digits 4 (w / 4294967296)) ≡ pasted l at (digits 8 w)
+halves-pasted l at w h =
+    pasted-then l at (digits 4 w) (at + 4) (digits 4 (w / 4294967296)) (rw length-digits) (rw length-digits (omega arith))
+    ∙ ap (pasted l at) (sym (digits-parts 4 4 w))
 
 pub load-at-turn : (bs out₀ : List ℕ) (at i : ℕ) → i < length out₀
     → set (words i (drop at bs) ++ drop i out₀) i (le (take 8 (drop (at + i * 8) bs))) ≡ words (i + 1) (drop at bs) ++ drop (i + 1) out₀

@@ -1,14 +1,15 @@
 -- Laws of words in a row of bytes.
 -- Assumes nothing.
-use mathlib.Core.Path.{_≡_, refl, sym, ap, subst}
+use mathlib.Core.Path.{_≡_, refl, sym, ap, subst, _∙_}
 use mathlib.Core.List.{List, [], _∷_, _++_, append-assoc}
 use Prim.Native.Nat.{ℕ, zero, suc, _+_, _*_, _/_, _%_, _^_, _≤_, _<_}
 use native.Mathlib.Numerals.{add-one, unary-clauses}
 use native.Mathlib.Omega.{arith}
-use native.Mathlib.Nat.{mul-suc, mul-zero, add-zero, mul-comm, suc-add, zero-add, pow-succ'}
+use native.Mathlib.Nat.{mul-suc, mul-zero, add-zero, mul-comm, suc-add, zero-add, mul-assoc, pow-succ', div-one, div-div-eq-div-mul}
 use lib.ListN.{set, length, take, drop, getD, take-append-drop, length-append, length-drop}
 use lib.Seq.{set-at, append-snoc, sets-eq, drop-cons, drop-drop, length-take-le, getD-drop}
-use Rattle.words.specs.Words.{le, sumAt, digits, words, bytesOf}
+use Rattle.words.specs.Words.{le, fourAt, digits, words, bytesOf}
+use Rattle.words.specs.Paste.{pasted}
 
 -- ---- digits
 
@@ -33,26 +34,27 @@ digits-le (b ∷ bs) h =
     let ed : (b + 256 * le bs) / 256 ≡ le bs = omega arith in
     rw (em, ed) (ap (λ (l : List ℕ). b ∷ l) (digits-le bs (λ i. h (suc i))))
 
+-- ---- in two parts
+
+pub le-parts : (n m : ℕ) (l : List ℕ) → n ≤ length l → le (take (n + m) l) ≡ le (take n l) + 256 ^ n * le (take m (drop n l))
+unfolding le
+le-parts zero m l h = let e : 256 ^ 0 ≡ 1 = refl in rw (zero-add, e) (omega arith)
+le-parts (suc n) m [] h = absurd (omega arith)
+le-parts (suc n) m (b ∷ l) h =
+    let r = le (take m (drop n l)) in
+    let e : 256 ^ suc n * r ≡ 256 * (256 ^ n * r) = rw (pow-succ' 256 n, mul-assoc) in
+    rw (suc-add, e, le-parts n m l (omega arith)) (omega arith)
+
+pub digits-parts : (n m w : ℕ) → digits (n + m) w ≡ digits n w ++ digits m (w / 256 ^ n)
+unfolding digits
+digits-parts zero m w = let e : 256 ^ 0 ≡ 1 = refl in rw (zero-add, e, div-one)
+digits-parts (suc n) m w = rw (suc-add, digits-parts n m (w / 256), pow-succ' 256 n, div-div-eq-div-mul)
+
 -- ---- words
 
 nil-of : (bs : List ℕ) → length bs ≡ 0 → bs ≡ []
 nil-of [] e = refl
 nil-of (b ∷ bs) e = let z : ⊥ = omega arith in absurd z
-
-sucs : (bs : List ℕ) (at : ℕ)
-    → le
-    (getD bs at 0
-    ∷ getD bs (suc at) 0
-    ∷ getD bs (suc (suc at)) 0
-    ∷ getD bs (suc (suc (suc at))) 0
-    ∷ getD bs (suc (suc (suc (suc at)))) 0
-    ∷ getD bs (suc (suc (suc (suc (suc at))))) 0
-    ∷ getD bs (suc (suc (suc (suc (suc (suc at)))))) 0
-    ∷ getD bs (suc (suc (suc (suc (suc (suc (suc at))))))) 0
-    ∷ [])
-    ≡ sumAt bs at
-unfolding le
-sucs bs at = simp (unary-clauses, mul-zero, add-zero)
 
 below-take : (n : ℕ) (bs : List ℕ) → ((i : ℕ) → getD bs i 0 < 256) → (i : ℕ) → getD (take n bs) i 0 < 256
 below-take zero bs h i = omega arith
@@ -60,21 +62,29 @@ below-take (suc n) [] h i = omega arith
 below-take (suc n) (b ∷ bs) h zero = h 0
 below-take (suc n) (b ∷ bs) h (suc i) = below-take n bs (λ j. h (suc j)) i
 
--- the first eight bytes from at are those that the sum names
-pub le-sumAt : (bs : List ℕ) (at : ℕ) → at + 8 ≤ length bs → le (take 8 (drop at bs)) ≡ sumAt bs at
+sucs : (bs : List ℕ) (at : ℕ)
+    → le (getD bs at 0 ∷ getD bs (suc at) 0 ∷ getD bs (suc (suc at)) 0 ∷ getD bs (suc (suc (suc at))) 0 ∷ [])
+    ≡ fourAt bs at
 unfolding le
-le-sumAt bs at h =
+sucs bs at = simp (unary-clauses, mul-zero, add-zero)
+
+-- the first four bytes from at are those that the sum names
+pub le-four : (bs : List ℕ) (at : ℕ) → at + 4 ≤ length bs → le (take 4 (drop at bs)) ≡ fourAt bs at
+unfolding le
+le-four bs at h =
     rw (
       drop-cons bs at 0 (omega arith),
       drop-cons bs (suc at) 0 (omega arith),
       drop-cons bs (suc (suc at)) 0 (omega arith),
       drop-cons bs (suc (suc (suc at))) 0 (omega arith),
-      drop-cons bs (suc (suc (suc (suc at)))) 0 (omega arith),
-      drop-cons bs (suc (suc (suc (suc (suc at))))) 0 (omega arith),
-      drop-cons bs (suc (suc (suc (suc (suc (suc at)))))) 0 (omega arith),
-      drop-cons bs (suc (suc (suc (suc (suc (suc (suc at))))))) 0 (omega arith),
     )
     (sucs bs at)
+
+-- a word from its halves
+pub le-halves : (bs : List ℕ) (at : ℕ) → at + 8 ≤ length bs → le (take 8 (drop at bs)) ≡ fourAt bs at + 4294967296 * fourAt bs (at + 4)
+le-halves bs at h =
+    rw (← le-four bs at (omega arith), ← le-four bs (at + 4) (omega arith), ← drop-drop 4 at bs)
+    (le-parts 4 4 (drop at bs) (simp length-drop (omega arith)))
 
 pub length-words : (n : ℕ) (bs : List ℕ) → length (words n bs) ≡ n
 unfolding words
@@ -115,9 +125,11 @@ unfolding words
 load-turn bs out₀ i h =
     rw (drop-cons out₀ i 0, set-at (words i bs) _ _ _ i (length-words i bs), words-add i 1 bs, append-snoc, add-one i, mul-comm i 8)
 
--- eight stores, one after the other
-pub stored : (l : List ℕ) (at w : ℕ) → at + 8 ≤ length l
-    → set (set (set (set (set (set (set (set l at (w % 256)) (at + 1) (w / 256 % 256)) (at + 2) (w / 256 / 256 % 256)) (at + 3) (w / 256 / 256 / 256 % 256)) (at + 4) (w / 256 / 256 / 256 / 256 % 256)) (at + 5) (w / 256 / 256 / 256 / 256 / 256 % 256)) (at + 6) (w / 256 / 256 / 256 / 256 / 256 / 256 % 256)) (at + 7) (w / 256 / 256 / 256 / 256 / 256 / 256 / 256 % 256)
-    ≡ take at l ++ digits 8 w ++ drop (at + 8) l
-unfolding digits
-stored l at w h = simp unary-clauses (simp unary-clauses at (sets-eq (digits 8 w) l at h))
+-- four stores, one after the other
+pub four-pasted : (l : List ℕ) (at w : ℕ) → at + 4 ≤ length l
+    → set (set (set (set l at (w % 256)) (at + 1) (w / 256 % 256)) (at + 2) (w / 256 / 256 % 256)) (at + 3) (w / 256 / 256 / 256 % 256)
+    ≡ pasted l at (digits 4 w)
+unfolding digits pasted
+four-pasted l at w h =
+    let e = sets-eq (digits 4 w) l at h ∙ append-assoc (take at l) (digits 4 w) (drop (at + 4) l) in
+    simp unary-clauses (simp unary-clauses at e)
