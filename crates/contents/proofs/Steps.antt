@@ -19,7 +19,7 @@ use Rattle.decimals.specs.Reader.{Parsed, got, bad, numbers}
 use Rattle.decimals.specs.Given.{Got, Laid}
 use Rattle.decimals.proofs.Steps.{then-got, then-bad}
 use Rattle.decimals.proofs.Exact.{numbers-only}
-use Rattle.fieldfile.specs.Form.{termList}
+use Rattle.fieldfile.specs.Form.{LONGEST, termList}
 use Rattle.fieldfile.specs.Reader.{bodies, table, termsFrom, ends, whole, readOf}
 use Rattle.fieldfile.proofs.Lists.{terms-from}
 use Rattle.fieldfile.proofs.Exact.{whole-only}
@@ -102,6 +102,6 @@ module _ (bs : List ℕ) where
   unfolding contentsOf
   holds-none e = rw e
 
-  pub holds-some : {r : Bool} {ts cells : List ℕ} → length bs ≤ 4096 → Formed r ts cells (whole bs) → r ≡ true → held true ts cells ≡ contentsOf (readOf bs)
+  pub holds-some : {r : Bool} {ts cells : List ℕ} → length bs ≤ LONGEST → Formed r ts cells (whole bs) → r ≡ true → held true ts cells ≡ contentsOf (readOf bs)
   unfolding contentsOf
   holds-some h f e = let g = f .good e in rw (read-got bs h (g .2), g .3, g .4)

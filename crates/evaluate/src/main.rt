@@ -1,5 +1,5 @@
 // Evaluates one field file: reads standard input to its end, and writes what document 01 says to standard output.
-ghost use Prim.Native.Nat.{_≤_};
+ghost use Prim.Native.Nat.{_≤_, max};
 ghost use mathlib.Core.Path.{_≡_};
 ghost use lib.ListN.{length};
 ghost use Rattle.evaluate.specs.Input.{Ends};
@@ -24,15 +24,22 @@ fn read_once(buffer: &mut [u8], from: usize) -> Got
     Got::Bytes(io::count(got, &buffer[from..]))
 }
 
-// Where the next bytes go: behind those that came, and over the last one where the buffer is full.
+// Where the next bytes go: behind those that came, or over them where the buffer is full. A file so long is refused whatever it holds.
 fn next_place(len: usize) -> usize
     ensures { λ r. ⌜ r ≤ 4096 ⌝ }
 {
-    if len < 4096 { len } else { 4096 }
+    if len <= 4096 { len } else { 0 }
 }
 
-// Reads to the end of the input, however long. The buffer has room for one byte more than a file may have, so a longer input stays
-// longer. A proved loop has to end: it counts its turns down from a number that no run uses up.
+// How many bytes are held, where len were and the latest end there: a buffer that was full stays full.
+fn held(len: usize, end: usize) -> usize
+    ensures { λ r. ⌜ r ≡ max len end ⌝ }
+{
+    if len < end { end } else { len }
+}
+
+// Reads to the end of the input, however long. The buffer has room for one byte more than a file may have, so a longer input is held as
+// one that is too long. A proved loop has to end: it counts its turns down from a number that no run uses up.
 fn fill(buffer: &mut [u8]) -> Got
     requires { ⌜ length (now buffer) ≡ 4097 ⌝ }
     ensures { λ r. ⌜ Ends r 0 4097 ⌝ }
@@ -47,7 +54,7 @@ fn fill(buffer: &mut [u8]) -> Got
         if n == 0 {
             return Got::Bytes(len);
         }
-        len = from + n;
+        len = held(len, from + n);
         turns -= 1;
     }
     Got::Bytes(len)

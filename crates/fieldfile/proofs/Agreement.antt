@@ -19,7 +19,7 @@ use Rattle.decimals.specs.Ascii.{ascii}
 use Rattle.decimals.specs.Numbers.{numeral, Short, AllShort, line}
 use Rattle.decimals.specs.Reader.{Parsed, got, bad}
 use Rattle.decimals.proofs.Long.{long-most, long-line}
-use Rattle.fieldfile.specs.Form.{termList, ofSeries, entry, body, lines, text, ShortSpot, ShortSpots, Printable, OfForm}
+use Rattle.fieldfile.specs.Form.{LONGEST, termList, ofSeries, entry, body, lines, text, ShortSpot, ShortSpots, Printable, OfForm}
 use Rattle.fieldfile.specs.Reader.{tag, whole, taken, readOf}
 use Rattle.fieldfile.proofs.Lists.{length-series, all-series, lines-most, short-split3}
 use Rattle.fieldfile.proofs.Exact.{whole-back, whole-only, entry-tag, nested, text-nested}
@@ -27,35 +27,35 @@ use Rattle.fieldfile.proofs.Exact.{whole-back, whole-only, entry-tag, n
 -- ---- what the reader of files gives
 
 module _ (bs : List ℕ) where
-  pub read-long : 4096 < length bs → readOf bs ≡ none
+  pub read-long : LONGEST < length bs → readOf bs ≡ none
   unfolding readOf
-  read-long h = rw (lt-leb (length bs) 4096 h)
+  read-long h = rw (lt-leb (length bs) LONGEST h)
 
-  module _ (h : length bs ≤ 4096) where
+  module _ (h : length bs ≤ LONGEST) where
     pub read-bad : whole bs ≡ bad → readOf bs ≡ none
     unfolding readOf
-    read-bad e = rw (le-leb (length bs) 4096 h, e)
+    read-bad e = rw (le-leb (length bs) LONGEST h, e)
 
     pub read-got : {c : Terms × Places} {r : List ℕ} → whole bs ≡ got c r → readOf bs ≡ some c
     unfolding readOf
-    read-got e = rw (le-leb (length bs) 4096 h, e)
+    read-got e = rw (le-leb (length bs) LONGEST h, e)
 
 -- ---- both directions
 
 module _ (bs : List ℕ) (t : Terms) (l : Places) where
   pub read-only : readOf bs ≡ some (t, l) → OfForm bs t l
   unfolding readOf
-  read-only e = go (leb (length bs) 4096) refl (whole bs) refl e
+  read-only e = go (leb (length bs) LONGEST) refl (whole bs) refl e
     where
       never : _≡_ {A = Option (Terms × Places)} none (some (t, l)) → OfForm bs t l
       never e = let z : _≡_ {A = ℕ} 0 1 = cc in absurd (omega arith)
 
-      go : (b : Bool) → leb (length bs) 4096 ≡ b → (p : Parsed (Terms × Places)) → whole bs ≡ p → cond b (taken p) none ≡ some (t, l) → OfForm bs t l
+      go : (b : Bool) → leb (length bs) LONGEST ≡ b → (p : Parsed (Terms × Places)) → whole bs ≡ p → cond b (taken p) none ≡ some (t, l) → OfForm bs t l
       go true h bad p e = never e
       go true h (got c r) p e =
           let f : c ≡ (t, l) = cc in
           let i = whole-only bs t l r (p ∙ ap (λ c. got c r) f) in
-          record { is-text = i .0; printable = i .1; fits = leb-true (length bs) 4096 h }
+          record { is-text = i .0; printable = i .1; fits = leb-true (length bs) LONGEST h }
       go false h q p e = never e
 
   pub read-back : OfForm bs t l → readOf bs ≡ some (t, l)

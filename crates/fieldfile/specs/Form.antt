@@ -10,6 +10,10 @@ use Rattle.paper.specs.Units.{Terms, Spot, Places, inOrder, pointOf}
 use Rattle.decimals.specs.Ascii.{ascii}
 use Rattle.decimals.specs.Numbers.{AllShort, line}
 
+-- a file has at most 4,096 bytes
+abbrev pub LONGEST : ℕ
+LONGEST = 4096
+
 -- ---- the fixed strings
 
 abbrev pub CONTENTS : List ℕ
@@ -105,4 +109,4 @@ pub record Printable (t : Terms) (l : Places) : Type 0 where
 pub record OfForm (bs : List ℕ) (t : Terms) (l : Places) : Type 0 where
   pub is-text : bs ≡ text t l
   pub printable : Printable t l
-  pub fits : length bs ≤ 4096
+  pub fits : length bs ≤ LONGEST

@@ -9,7 +9,7 @@ use lib.IntN.{ℤ, pos, negsuc}
 use Rattle.paper.specs.Procedure.{SETS, POINTS}
 use Rattle.paper.specs.Units.{Triple, Terms, Spot, Places}
 use Rattle.decimals.specs.Reader.{Parsed, got, bad, then, fixed, field, ahead, numbers}
-use Rattle.fieldfile.specs.Form.{CONTENTS, TERMS, SERIES1, SERIES2, SERIES3}
+use Rattle.fieldfile.specs.Form.{LONGEST, CONTENTS, TERMS, SERIES1, SERIES2, SERIES3}
 
 -- ---- a series
 
@@ -85,6 +85,5 @@ abbrev pub taken : {A : Type 0} → Parsed A → Option A
 taken bad = none
 taken (got a l) = some a
 
--- at most 4,096 bytes
 unfoldable pub readOf : List ℕ → Option (Terms × Places)
-readOf bs = cond (leb (length bs) 4096) (taken (whole bs)) none
+readOf bs = cond (leb (length bs) LONGEST) (taken (whole bs)) none

@@ -1,5 +1,5 @@
 -- What screening and figures need of the words of a full book in form: each word in its range, and each place a reading.
-use Prim.Native.Nat.{ℕ, _+_, _*_, _%_, _≤_, _<_}
+use Prim.Native.Nat.{ℕ, _+_, _-_, _*_, _%_, _≤_, _<_}
 use mathlib.Core.Path.{_≡_}
 use mathlib.Core.List.{List}
 use lib.ListN.{getD}
@@ -16,5 +16,5 @@ pub record Ready (t l : List ℕ) : Type 0 where
   pub points : (a : ℕ) → a < 6 → getD t (6 + a) 0 ≤ ORIGIN + 100000000000
   pub apart : (a : ℕ) → a < 3 → (getD t (9 + a) 0 ≤ getD t (6 + a) 0 + 500000) × (getD t (6 + a) 0 ≤ getD t (9 + a) 0 + 500000)
   pub distance : Between (ORIGIN + 1) (ORIGIN + 500000) (getD t 0 0)
-  pub height : Between 999999500000 1000000500000 (getD t 1 0)
+  pub height : Between (ORIGIN - 500000) (ORIGIN + 500000) (getD t 1 0)
   pub scales : (i : ℕ) → 2 ≤ i → i < 6 → Between (ORIGIN + 1) (ORIGIN + 10000) (getD t i 0)

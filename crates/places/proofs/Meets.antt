@@ -168,7 +168,7 @@ module _ (t l : List ℕ) (range : inRange (termsOf t) ≡ true) (near : allNear
   sized (suc (suc (suc (suc (suc zero))))) h g = one-range 10000 (getD t 5 0) (sixes .5)
   sized (suc (suc (suc (suc (suc (suc i)))))) h g = absurd (omega arith)
 
-  heights : Between 999999500000 1000000500000 (getD t 1 0)
+  heights : Between (ORIGIN - 500000) (ORIGIN + 500000) (getD t 1 0)
   heights = let k = up-zero 500000 (getD t 1 0) (sixes .1) in (omega arith, omega arith)
 
   pub ready : Ready t l

@@ -53,8 +53,11 @@ same-length-2 c = search needs
 returns-2 : tie.Need-returns-2 Inv-loop μ-loop
 returns-2 c = search needs
 
-add-len : tie.Need-add-len Inv-loop μ-loop
-add-len c = omega (arith, bound c)
+add-held : tie.Need-add-held Inv-loop μ-loop
+add-held c = omega (arith, bound c)
+
+held-requires : tie.Need-held-requires Inv-loop μ-loop
+held-requires c κs = search needs
 
 sub-turns : tie.Need-sub-turns Inv-loop μ-loop
 sub-turns c = search needs
@@ -63,7 +66,9 @@ loop-less : tie.Need-loop-less Inv-loop μ-loop
 loop-less c = search needs
 
 loop-again : tie.Need-loop-again Inv-loop μ-loop
-loop-again c = (bound c, search needs)
+loop-again c =
+    let l = c .before .before .before .before .before .before .before .before .before .before .before .loop .inv .0 in
+    (omega (arith, c .held .ensures, bound (c .before), l), search needs)
 
 same-length-3 : tie.Need-same-length-3 Inv-loop μ-loop
 same-length-3 c = search needs
@@ -86,7 +91,8 @@ fill-spec =
     returns
     same-length-2
     returns-2
-    add-len
+    add-held
+    held-requires
     sub-turns
     loop-less
     loop-again
