@@ -3,10 +3,10 @@
 use Prim.Native.Nat.{ℕ, zero, suc, _-_, _*_, _≤_}
 use native.Mathlib.Omega.{arith}
 use mathlib.Core.Path.{_≡_, refl, sym, ap, _∙_, subst}
-use mathlib.Core.Bool.{Bool, true, false, cond}
+use mathlib.Core.Bool.{Bool, true, false, cond, _&&_, and-comm, and-assoc, and-true}
 use mathlib.Core.Option.{Option, none, some}
 use mathlib.Core.List.{List}
-use lib.ListN.{length}
+use lib.ListN.{length, drop}
 use lib.Dec.{eqb}
 use borrow.Author.Tests.{eq-eqb, eqb-true}
 use Rattle.paper.specs.Procedure.{BOOKS}
@@ -23,9 +23,9 @@ use Rattle.book.specs.Meaning.{bookOf, meant, bookForm, seen}
 use Rattle.book.proofs.Meaning.{seen-in}
 use Rattle.stored.specs.Image.{BOOK, bookAt}
 use Rattle.stored.proofs.Image.{Bytes}
-use Rattle.lent.specs.Image.{LENGTH, image, meantFrom, inForm, stateOf}
-use Rattle.lent.specs.Calls.{callOn, called, Calls, pickedOf, unformed, foundOf, turnedAway}
-use Rattle.lent.proofs.Image.{form-length, form-at, book-at, state-in, state-out, form-image-is}
+use Rattle.lent.specs.Image.{LENGTH, image, formFrom, meantFrom, inForm, stateOf}
+use Rattle.lent.specs.Calls.{callOn, called, Calls, pickedOf, formBetween, othersForm, unformed, foundOf, turnedAway}
+use Rattle.lent.proofs.Image.{form-parts, form-length, form-at, book-at, state-in, state-out, form-image-is}
 
 -- ---- the book of a number
 
@@ -44,6 +44,18 @@ pub data Way (bs : List ℕ) (k : ℕ) (b : Book) : Type 0 where
   within : inForm bs ≡ true → Within bs k b → Way bs k b
   without : inForm bs ≡ false → seen b ≡ none → Way bs k b
 
+closed-form : bookForm (bookOf none) ≡ true
+unfolding bookForm wordsForm blank bookOf zeros
+closed-form = refl
+
+unformed-is : (b : Book) → bookForm (unformed b) ≡ false
+unfolding bookForm wordsForm
+unformed-is b = refl
+
+not-seen : (b : Book) → bookForm b ≡ false → seen b ≡ none
+unfolding seen
+not-seen b e = rw e
+
 module _ (bs : List ℕ) (k : ℕ) where
   abbrev standing : Book
   standing = bookAt bs ((k - 1) * BOOK)
@@ -59,13 +71,34 @@ module _ (bs : List ℕ) (k : ℕ) where
       go true v w = found (record { formed = u; among = v; there = w })
       go false v w = elsewhere v w
 
-  pub found-way : (b : Book) → b ≡ foundOf bs k → Way bs k b
-  unfolding foundOf seen bookForm wordsForm
-  found-way b e = go (inForm bs) refl e
+  -- a register is in form where the book of that number is, and every other
+  form-split : inForm bs ≡ othersForm bs k && bookForm (pickedOf bs k)
+  unfolding inForm othersForm formBetween pickedOf
+  form-split = go (eqb (length bs) LENGTH) (oneTo BOOKS k) refl
     where
-      go : (i : Bool) → inForm bs ≡ i → b ≡ cond i (pickedOf bs k) (unformed (pickedOf bs k)) → Way bs k b
-      go true u w = within u (picked-way b w u)
-      go false u w = without u (rw w)
+      swapped : (x y z : Bool) → x && (y && z) ≡ x && z && y
+      swapped x y z = ap (λ (w : Bool). x && w) (and-comm y z) ∙ sym (and-assoc x z y)
+
+      go : (i j : Bool) → oneTo BOOKS k ≡ j
+          → i && formFrom BOOKS bs
+          ≡ cond j (i && formFrom (k - 1 - 0) bs && (i && formFrom (BOOKS - k) (drop (k * BOOK) bs))) (i && formFrom BOOKS bs)
+          && bookForm (cond (i && j) standing (bookOf none))
+      go false true v = refl
+      go false false v = refl
+      go true false v = rw closed-form (sym (and-true (formFrom BOOKS bs)))
+      go true true v =
+          let h = among BOOKS k v in
+          let e : k - 1 - 0 ≡ k - 1 = omega arith in
+          rw e (form-parts bs k (h .0) (h .1) ∙ swapped (formFrom (k - 1) bs) (bookForm standing) (formFrom (BOOKS - k) (drop (k * BOOK) bs)))
+
+  pub found-way : (b : Book) → b ≡ foundOf bs k → Way bs k b
+  unfolding foundOf
+  found-way b e = go (othersForm bs k) (inForm bs) refl form-split e
+    where
+      go : (o i : Bool) → inForm bs ≡ i → inForm bs ≡ o && bookForm (pickedOf bs k) → b ≡ cond o (pickedOf bs k) (unformed (pickedOf bs k)) → Way bs k b
+      go true true u f w = within u (picked-way b w u)
+      go true false u f w = without u (not-seen b (ap bookForm w ∙ sym f ∙ u))
+      go false i u f w = without f (not-seen b (ap bookForm w ∙ unformed-is (pickedOf bs k)))
 
   range : (b : Book) → Found bs k b → (1 ≤ k) × (k ≤ BOOKS)
   range b f = among BOOKS k (f .among)

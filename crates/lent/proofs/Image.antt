@@ -2,9 +2,9 @@
 -- Assumes nothing.
 use Prim.Native.Nat.{ℕ, zero, suc, _+_, _-_, _*_, _≤_, _<_}
 use native.Mathlib.Omega.{arith}
-use native.Mathlib.Nat.{zero-add}
+use native.Mathlib.Nat.{zero-add, suc-add}
 use mathlib.Core.Path.{_≡_, refl, sym, ap, _∙_, subst}
-use mathlib.Core.Bool.{Bool, true, false, cond, _&&_}
+use mathlib.Core.Bool.{Bool, true, false, cond, _&&_, and-assoc}
 use mathlib.Core.Option.{Option, none, some}
 use mathlib.Core.List.{List, [], _∷_, _++_}
 use lib.ListN.{length, getD, set, drop, replicate, length-append, length-drop, take-append-drop}
@@ -22,6 +22,7 @@ use Rattle.book.proofs.Meaning.{form-book, form-formed, meant-image, form-image
 use Rattle.stored.specs.Image.{BOOK, bookBytes, bookAt}
 use Rattle.stored.proofs.Image.{Bytes, sized-at, book-drop, bytes-book, length-book, paste-start, book-front, closed-bytes}
 use Rattle.lent.specs.Image.{LENGTH, image, formFrom, meantFrom, inForm, stateOf}
+use Rattle.lent.specs.Calls.{formBetween}
 
 bytes-drop : (m : ℕ) (bs : List ℕ) → Bytes bs → Bytes (drop m bs)
 bytes-drop m bs h i = rw getD-drop (h (m + i))
@@ -34,34 +35,50 @@ book-on bs k =
 
 -- ---- the loop of the form
 
-module _ (bs : List ℕ) where
-  abbrev pub formLeft : ℕ → Bool
-  formLeft k = formFrom (BOOKS - k) (drop (k * BOOK) bs)
+form-add : (n m : ℕ) (bs : List ℕ) → formFrom (n + m) bs ≡ formFrom n bs && formFrom m (drop (n * BOOK) bs)
+unfolding formFrom
+form-add zero m bs = rw zero-add
+form-add (suc n) m bs =
+    let e : BOOK + n * BOOK ≡ suc n * BOOK = omega arith in
+    rw (suc-add, form-add n m (drop BOOK bs), drop-drop (n * BOOK) BOOK bs, e) (sym (and-assoc (bookForm (bookAt bs 0)) (formFrom n (drop BOOK bs)) (formFrom m (drop (suc n * BOOK) bs))))
 
-  form-turn : (k : ℕ) → k < BOOKS → formLeft k ≡ bookForm (bookAt bs (k * BOOK)) && formLeft (k + 1)
+module _ (bs : List ℕ) where
+  abbrev pub formLeft : ℕ → ℕ → Bool
+  formLeft to k = formFrom (to - k) (drop (k * BOOK) bs)
+
+  form-turn : (to k : ℕ) → k < to → formLeft to k ≡ bookForm (bookAt bs (k * BOOK)) && formLeft to (k + 1)
   unfolding formFrom
-  form-turn k h =
-      let e : BOOKS - k ≡ suc (BOOKS - (k + 1)) = omega arith in
+  form-turn to k h =
+      let e : to - k ≡ suc (to - (k + 1)) = omega arith in
       let f : k * BOOK + BOOK ≡ (k + 1) * BOOK = omega arith in
       rw (e, book-drop bs (k * BOOK), drop-drop BOOK (k * BOOK) bs, f)
 
-  pub form-on : (k : ℕ) → k < BOOKS → bookForm (bookAt bs (k * BOOK)) ≡ true → formLeft k ≡ formLeft (k + 1)
-  form-on k h e = form-turn k h ∙ rw e
+  pub form-on : (to k : ℕ) → k < to → bookForm (bookAt bs (k * BOOK)) ≡ true → formLeft to k ≡ formLeft to (k + 1)
+  form-on to k h e = form-turn to k h ∙ rw e
 
-  pub form-stop : (k : ℕ) → k < BOOKS → bookForm (bookAt bs (k * BOOK)) ≡ false → formLeft k ≡ false
-  form-stop k h e = form-turn k h ∙ rw e
+  pub form-stop : (to k : ℕ) → k < to → bookForm (bookAt bs (k * BOOK)) ≡ false → formLeft to k ≡ false
+  form-stop to k h e = form-turn to k h ∙ rw e
 
-  pub form-end : (k : ℕ) → k ≡ BOOKS → formLeft k ≡ true
+  pub form-end : (to k : ℕ) → k ≡ to → formLeft to k ≡ true
   unfolding formFrom
-  form-end k e = rw e
+  form-end to k e = let z : to - to ≡ 0 = omega arith in rw (e, z)
 
-  pub form-long : (length bs ≡ LENGTH → ⊥) → inForm bs ≡ false
-  unfolding inForm
-  form-long f = rw (ne-eqb (length bs) LENGTH f)
+  -- the books before one, that one, and those behind it
+  pub form-parts : (k : ℕ) → 1 ≤ k → k ≤ BOOKS
+      → formFrom BOOKS bs ≡ formFrom (k - 1) bs && (bookForm (bookAt bs ((k - 1) * BOOK)) && formFrom (BOOKS - k) (drop (k * BOOK) bs))
+  form-parts k lo hi =
+      let e : BOOKS ≡ k - 1 + (BOOKS - (k - 1)) = omega arith in
+      let f : k - 1 + 1 ≡ k = omega arith in
+      let t : formLeft BOOKS (k - 1) ≡ bookForm (bookAt bs ((k - 1) * BOOK)) && formLeft BOOKS k = rw f at (form-turn BOOKS (k - 1) (omega arith)) in
+      ap (λ (n : ℕ). formFrom n bs) e ∙ form-add (k - 1) (BOOKS - (k - 1)) bs ∙ ap (λ (b : Bool). formFrom (k - 1) bs && b) t
 
-  pub form-is : length bs ≡ LENGTH → inForm bs ≡ formFrom BOOKS bs
-  unfolding inForm
-  form-is e = rw (eq-eqb (length bs) LENGTH e)
+  pub between-long : (from to : ℕ) → (length bs ≡ LENGTH → ⊥) → formBetween from to bs ≡ false
+  unfolding formBetween
+  between-long from to f = rw (ne-eqb (length bs) LENGTH f)
+
+  pub between-is : (from to : ℕ) → length bs ≡ LENGTH → formBetween from to bs ≡ formLeft to from
+  unfolding formBetween
+  between-is from to e = rw (eq-eqb (length bs) LENGTH e)
 
   pub form-length : inForm bs ≡ true → length bs ≡ LENGTH
   unfolding inForm

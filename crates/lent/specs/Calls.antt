@@ -2,10 +2,10 @@
 -- of the register that the bytes hold, and the bytes afterwards are the image of the register after the call.
 use Prim.Native.Nat.{ℕ, _-_, _*_}
 use mathlib.Core.Path.{_≡_}
-use mathlib.Core.Bool.{cond, _&&_}
+use mathlib.Core.Bool.{Bool, cond, _&&_}
 use mathlib.Core.Option.{Option, none, some}
 use mathlib.Core.List.{List}
-use lib.ListN.{length}
+use lib.ListN.{length, drop}
 use lib.Dec.{eqb}
 use Rattle.paper.specs.Procedure.{BOOKS}
 use Rattle.paper.specs.Units.{oneTo}
@@ -17,7 +17,7 @@ use Rattle.words.specs.Paste.{pasted}
 use Rattle.book.specs.declared.Book.{Book}
 use Rattle.book.specs.Meaning.{bookOf}
 use Rattle.stored.specs.Image.{BOOK, wordsOf, bookAt}
-use Rattle.lent.specs.Image.{LENGTH, image, inForm, stateOf}
+use Rattle.lent.specs.Image.{LENGTH, image, formFrom, inForm, stateOf}
 
 -- the answer to a call, and the register's bytes after it
 pub record Out : Type 0 where
@@ -53,12 +53,20 @@ Calls c bs r bs′ = (r ≡ called c bs .answer .refused) × (bs′ ≡ called c
 unfoldable pub pickedOf : List ℕ → ℕ → Book
 pickedOf bs k = cond (eqb (length bs) LENGTH && oneTo BOOKS k) (bookAt bs ((k - 1) * BOOK)) (bookOf none)
 
+-- the length is right, and the books from one to another are in form, counted from 0, the last not among them
+unfoldable pub formBetween : ℕ → ℕ → List ℕ → Bool
+formBetween from to bs = eqb (length bs) LENGTH && formFrom (to - from) (drop (from * BOOK) bs)
+
+-- the register is in form but for the book of that number
+unfoldable pub othersForm : List ℕ → ℕ → Bool
+othersForm bs k = cond (oneTo BOOKS k) (formBetween 0 (k - 1) bs && formBetween k BOOKS bs) (inForm bs)
+
 -- no book in form begins so
 abbrev pub unformed : Book → Book
 unformed b = record { opened = 2; terms = b .terms; cells = b .cells; kept = b .kept; changes = b .changes }
 
 unfoldable pub foundOf : List ℕ → ℕ → Book
-foundOf bs k = cond (inForm bs) (pickedOf bs k) (unformed (pickedOf bs k))
+foundOf bs k = cond (othersForm bs k) (pickedOf bs k) (unformed (pickedOf bs k))
 
 -- 1 (REGISTER), then 2 (PLACE), then what the book met
 unfoldable pub turnedAway : ℕ → ℕ → ℕ

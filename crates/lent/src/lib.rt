@@ -1,11 +1,12 @@
 // The lent bytes of a register: its form, one book found, and one put back.
 ghost use mathlib.Core.Path.{_≡_};
+ghost use Prim.Native.Nat.{_≤_};
 ghost use lib.ListN.{length};
 ghost use Rattle.paper.specs.Procedure.{BOOKS};
 ghost use Rattle.paper.specs.Units.{oneTo};
 ghost use Rattle.paper.specs.Answers.{unless};
 ghost use Rattle.lent.specs.Image.{LENGTH, inForm};
-ghost use Rattle.lent.specs.Calls.{pickedOf, foundOf, turnedAway, placedAt};
+ghost use Rattle.lent.specs.Calls.{pickedOf, formBetween, othersForm, foundOf, turnedAway, placedAt};
 use book::Book;
 use book::Step;
 use procedure::Procedure;
@@ -20,15 +21,16 @@ impl Layout {
     pub const REGISTER: usize = 29696;
 }
 
-// Whether bytes are a register in form: the whole check, in every call.
-pub fn formed(register: &[u8]) -> bool
-    ensures { λ r. ⌜ r ≡ inForm (now (register .entry)) ⌝ }
+// Whether the length is right and the books from one to another are in form, counted from 0, the last not among them.
+fn formed_from(register: &[u8], from: usize, to: usize) -> bool
+    requires { ⌜ (from ≤ to) × (to ≤ BOOKS) ⌝ }
+    ensures { λ r. ⌜ r ≡ formBetween from to (now (register .entry)) ⌝ }
 {
     if register.len() != Layout::REGISTER {
         return false;
     }
-    let mut k: usize = 0;
-    while k < Procedure::BOOKS {
+    let mut k = from;
+    while k < to {
         if stored::in_form(register, k * Layout::BOOK) {
             k += 1;
         } else {
@@ -36,6 +38,13 @@ pub fn formed(register: &[u8]) -> bool
         }
     }
     true
+}
+
+// Whether bytes are a register in form: the whole check.
+pub fn formed(register: &[u8]) -> bool
+    ensures { λ r. ⌜ r ≡ inForm (now (register .entry)) ⌝ }
+{
+    formed_from(register, 0, Procedure::BOOKS)
 }
 
 // Whether a number is that of a book.
@@ -63,12 +72,23 @@ pub fn picked(register: &[u8], book: u64) -> Book
     book::closed()
 }
 
-// The same; of a register that is not in form it is made a book that is not, and any call on that is refused with REGISTER.
+// Whether the register is in form but for the book of that number: the call on it holds it to the form, so that each is looked at once.
+fn others_formed(register: &[u8], book: u64) -> bool
+    ensures { λ r. ⌜ r ≡ othersForm (now (register .entry)) book ⌝ }
+{
+    if is_book(book) {
+        let k = book as usize;
+        return formed_from(register, 0, k - 1) & formed_from(register, k, Procedure::BOOKS);
+    }
+    formed(register)
+}
+
+// The book of that number; where another is not in form it is made one that is not, and any call on it is refused with REGISTER.
 pub fn found(register: &[u8], book: u64) -> Book
     ensures { λ r. ⌜ r ≡ foundOf (now (register .entry)) book ⌝ }
 {
     let mut b = picked(register, book);
-    if formed(register) {
+    if others_formed(register, book) {
         return b;
     }
     b.opened = 2;

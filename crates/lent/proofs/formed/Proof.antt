@@ -1,75 +1,15 @@
-use Prim.Native.Nat.{_≤_, _<_, _-_}
-use native.Mathlib.Omega.{arith}
-use mathlib.Core.Path.{_≡_, refl, sym, _∙_}
-use Rattle.paper.specs.Procedure.{BOOKS}
-use Rattle.form.proofs.Laws.{known}
-use Rattle.lent.specs.Image.{formFrom}
-use Rattle.lent.proofs.Image.{formLeft, form-on, form-stop, form-end, form-long, form-is}
+use Rattle.lent.specs.Image.{inForm}
+use Rattle.lent.specs.Calls.{formBetween}
 use borrow.Author.Needs.{needs}
 use Rattle.lent.proofs.formed.Statement.{statement}
 use Rattle.lent.proofs.formed.Tie as tie
 
-abbrev Inv-loop : tie.InvT-loop
-Inv-loop register k₀ k =
-    (k ≤ BOOKS) × (formFrom BOOKS register ≡ formLeft register k)
+formed-from-requires : tie.Need-formed-from-requires
+formed-from-requires c κs = search needs
 
-abbrev μ-loop : tie.MeasureT-loop
-μ-loop register k₀ k =
-    BOOKS - k
-
-returns : tie.Need-returns Inv-loop μ-loop
-returns c =
-    sym (form-long _ (c .if1 .taken))
-
-loop-holds : tie.Need-loop-holds Inv-loop μ-loop
-loop-holds c =
-    (omega arith, refl)
-
-mul-in-form : tie.Need-mul-in-form Inv-loop μ-loop
-mul-in-form c = search needs
-
-in-form-requires : tie.Need-in-form-requires Inv-loop μ-loop
-in-form-requires c κs =
-    omega (arith, c .before .before .if1 .left)
-
-add-k : tie.Need-add-k Inv-loop μ-loop
-add-k c = search needs
-
-loop-less : tie.Need-loop-less Inv-loop μ-loop
-loop-less c = search needs
-
-loop-again : tie.Need-loop-again Inv-loop μ-loop
-loop-again c =
-    let bs = c .before .before .before .before .before .before .args .register .now in
-    let at = c .before .before .before .loop in
-    let h : at .k < BOOKS = omega arith in
-    (omega arith, at .inv .1 ∙ form-on bs (at .k) h (known (c .before .in-form .ensures) (c .if2 .taken)))
-
-returns-2 : tie.Need-returns-2 Inv-loop μ-loop
-returns-2 c =
-    let bs = c .before .before .before .before .before .before .args .register .now in
-    let at = c .before .before .before .loop in
-    let h : at .k < BOOKS = omega arith in
-    sym (form-is bs (c .before .before .before .before .if1 .left) ∙ at .inv .1 ∙ form-stop bs (at .k) h (known (c .before .in-form .ensures) (c .if2 .left)))
-
-returns-3 : tie.Need-returns-3 Inv-loop μ-loop
-returns-3 c =
-    let bs = c .before .before .before .before .args .register .now in
-    let h : c .before .loop .k ≡ BOOKS = omega arith in
-    sym (form-is bs (c .before .before .if1 .left) ∙ c .before .loop .inv .1 ∙ form-end bs (c .before .loop .k) h)
+returns : tie.Need-returns
+unfolding inForm formBetween
+returns c = c .formed-from .ensures
 
 pub formed-spec : {M : Type 1} → statement M
-formed-spec =
-    tie.close
-    (tie.spec
-    Inv-loop
-    μ-loop
-    returns
-    loop-holds
-    mul-in-form
-    in-form-requires
-    add-k
-    loop-less
-    loop-again
-    returns-2
-    returns-3)
+formed-spec = tie.close (tie.spec formed-from-requires returns)
