@@ -27,10 +27,11 @@ use Rattle.book.specs.Meaning.{bookOf}
 use Rattle.book.specs.Steps.{step, stepOf}
 use Rattle.stored.specs.Image.{BOOK, bookBytes}
 use Rattle.lent.specs.Image.{LENGTH, image, meantFrom}
-use Rattle.lent.specs.Calls.{shut, callOn, called, Calls, foundOf, turnedAway, placedAt}
+use Rattle.lent.specs.Calls.{shut, callOn, called, Calls}
+use Rattle.shelf.specs.Steps.{foundOf, turnedAway, placedAt}
 use Rattle.stored.proofs.Image.{Bytes}
 use Rattle.lent.proofs.Image.{form-length, formed-in, image-set, state-in, state-out, form-image-is, form-state}
-use Rattle.lent.proofs.Calls.{Found, found, elsewhere, Way, within, without, found-way, found-seen, found-meant, closed-seen, away-among}
+use Rattle.shelf.proofs.Ways.{Found, found, elsewhere, Way, within, without, found-way, found-seen, found-meant, closed-seen, away-among}
 
 -- outside the sixteen it is 2 (PLACE), but for 1 (REGISTER)
 away-outside : (k n : ℕ) → oneTo BOOKS k ≡ false → (n ≡ 1 → ⊥) → turnedAway k n ≡ 2

@@ -23,9 +23,9 @@ pub extern "C" fn rtk_open(
 ) -> u64
     ensures { λ r. ⌜ Calls (on book (begin (termsGiven d h sxy sh gxy gh x1 y1 h1 x2 y2 h2))) (now (register .entry)) r (now (register .exit)) ⌝ }
 {
-    let b = lent::found(register, book);
+    let b = shelf::found(register, book);
     let opened = b.begin(d, h, sxy, sh, gxy, gh, x1, y1, h1, x2, y2, h2);
-    lent::put_back(register, book, opened)
+    shelf::put_back(register, book, opened)
 }
 
 // Strike a book.
@@ -33,9 +33,9 @@ pub extern "C" fn rtk_open(
 pub extern "C" fn rtk_strike(register: &mut [u8], book: u64) -> u64
     ensures { λ r. ⌜ Calls (on book strike) (now (register .entry)) r (now (register .exit)) ⌝ }
 {
-    let b = lent::found(register, book);
+    let b = shelf::found(register, book);
     let struck = b.strike();
-    lent::put_back(register, book, struck)
+    shelf::put_back(register, book, struck)
 }
 
 // Enter a reading at an empty place.
@@ -52,9 +52,9 @@ pub extern "C" fn rtk_enter(
 ) -> u64
     ensures { λ r. ⌜ Calls (on book (enter (record { series = series; set = set; point = point }) (record { x = x; y = y; h = h }))) (now (register .entry)) r (now (register .exit)) ⌝ }
 {
-    let b = lent::found(register, book);
+    let b = shelf::found(register, book);
     let entered = b.enter(series, set, point, x, y, h);
-    lent::put_back(register, book, entered)
+    shelf::put_back(register, book, entered)
 }
 
 // Correct the reading at a filled place.
@@ -71,9 +71,9 @@ pub extern "C" fn rtk_correct(
 ) -> u64
     ensures { λ r. ⌜ Calls (on book (correct (record { series = series; set = set; point = point }) (record { x = x; y = y; h = h }))) (now (register .entry)) r (now (register .exit)) ⌝ }
 {
-    let b = lent::found(register, book);
+    let b = shelf::found(register, book);
     let corrected = b.correct(series, set, point, x, y, h);
-    lent::put_back(register, book, corrected)
+    shelf::put_back(register, book, corrected)
 }
 
 // Withdraw the reading at a filled place.
@@ -87,9 +87,9 @@ pub extern "C" fn rtk_withdraw(
 ) -> u64
     ensures { λ r. ⌜ Calls (on book (withdraw (record { series = series; set = set; point = point }))) (now (register .entry)) r (now (register .exit)) ⌝ }
 {
-    let b = lent::found(register, book);
+    let b = shelf::found(register, book);
     let withdrawn = b.withdraw(series, set, point);
-    lent::put_back(register, book, withdrawn)
+    shelf::put_back(register, book, withdrawn)
 }
 
 // Take a book's latest change back.
@@ -97,7 +97,7 @@ pub extern "C" fn rtk_withdraw(
 pub extern "C" fn rtk_take_back(register: &mut [u8], book: u64) -> u64
     ensures { λ r. ⌜ Calls (on book takeBack) (now (register .entry)) r (now (register .exit)) ⌝ }
 {
-    let b = lent::found(register, book);
+    let b = shelf::found(register, book);
     let undone = b.take_back();
-    lent::put_back(register, book, undone)
+    shelf::put_back(register, book, undone)
 }

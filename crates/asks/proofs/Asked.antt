@@ -21,9 +21,10 @@ use Rattle.doubles.specs.declared.Evaluated.{Evaluated}
 use Rattle.evaluation.specs.Evaluating.{judgementOf}
 use Rattle.doubles.specs.Doubles.{doubled}
 use Rattle.lent.specs.Image.{meantFrom}
-use Rattle.lent.specs.Calls.{shut, callOn, called, foundOf, turnedAway}
+use Rattle.lent.specs.Calls.{shut, callOn, called}
+use Rattle.shelf.specs.Steps.{foundOf, turnedAway}
 use Rattle.lent.proofs.Image.{state-in, state-out}
-use Rattle.lent.proofs.Calls.{found, elsewhere, Way, within, without, found-way, found-seen, found-meant, closed-seen, away-among}
+use Rattle.shelf.proofs.Ways.{found, elsewhere, Way, within, without, found-way, found-seen, found-meant, closed-seen, away-among}
 use Rattle.asks.specs.Answers.{plainOf, evaluationOf}
 
 -- an answer of the book of that number, by what the book met

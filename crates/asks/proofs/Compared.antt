@@ -17,9 +17,10 @@ use Rattle.book.specs.Meaning.{meant, seen}
 use Rattle.comparison.specs.declared.Compared.{Compared}
 use Rattle.comparison.specs.Comparing.{comparedOf}
 use Rattle.lent.specs.Image.{meantFrom}
-use Rattle.lent.specs.Calls.{shut, callOn, called, pickedOf, foundOf, turnedAway}
+use Rattle.lent.specs.Calls.{shut, callOn, called}
+use Rattle.shelf.specs.Steps.{pickedOf, foundOf, turnedAway}
 use Rattle.lent.proofs.Image.{state-in, state-out}
-use Rattle.lent.proofs.Calls.{Within, found, elsewhere, Way, within, without, within-seen, picked-way, found-way, found-seen, found-meant, closed-seen}
+use Rattle.shelf.proofs.Ways.{Within, found, elsewhere, Way, within, without, within-seen, picked-way, found-way, found-seen, found-meant, closed-seen}
 use Rattle.asks.specs.Answers.{plainlyOf, comparisonOf}
 use Rattle.asks.proofs.Asked.{turned, turned-among, away}
 

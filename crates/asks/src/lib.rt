@@ -21,8 +21,8 @@ use readings::Lengths;
 pub extern "C" fn rtk_read(register: &[u8], book: u64, series: u64, set: u64, point: u64) -> Lengths
     ensures { λ r. ⌜ r ≡ lengthsOf (called (ask (read book (record { series = series; set = set; point = point }))) (now (register .entry)) .answer) ⌝ }
 {
-    let mut reading = readings::read(lent::found(register, book), series, set, point);
-    reading.refusal = lent::turned_away(book, reading.refusal);
+    let mut reading = readings::read(shelf::found(register, book), series, set, point);
+    reading.refusal = shelf::turned_away(book, reading.refusal);
     reading
 }
 
@@ -31,8 +31,8 @@ pub extern "C" fn rtk_read(register: &[u8], book: u64, series: u64, set: u64, po
 pub extern "C" fn rtk_changes(register: &[u8], book: u64) -> Count
     ensures { λ r. ⌜ r ≡ countOf (called (ask (changes book)) (now (register .entry)) .answer) ⌝ }
 {
-    let mut changes = readings::changes(lent::found(register, book));
-    changes.refusal = lent::turned_away(book, changes.refusal);
+    let mut changes = readings::changes(shelf::found(register, book));
+    changes.refusal = shelf::turned_away(book, changes.refusal);
     changes
 }
 
@@ -47,9 +47,9 @@ pub extern "C" fn rtk_residual(
 ) -> Lengths
     ensures { λ r. ⌜ r ≡ lengthsOf (called (ask (residual book (record { series = series; set = set; point = point }))) (now (register .entry)) .answer) ⌝ }
 {
-    let b = lent::found(register, book);
+    let b = shelf::found(register, book);
     let mut residual = questions::residual(b, series, set, point);
-    residual.refusal = lent::turned_away(book, residual.refusal);
+    residual.refusal = shelf::turned_away(book, residual.refusal);
     residual
 }
 
@@ -92,8 +92,8 @@ fn plain(e: Evaluated) -> Evaluation
 pub extern "C" fn rtk_evaluate(register: &[u8], book: u64) -> Evaluation
     ensures { λ r. ⌜ r ≡ evaluationOf (called (ask (evaluate book)) (now (register .entry)) .answer) ⌝ }
 {
-    let mut e = questions::evaluate(lent::found(register, book));
-    e.refusal = lent::turned_away(book, e.refusal);
+    let mut e = questions::evaluate(shelf::found(register, book));
+    e.refusal = shelf::turned_away(book, e.refusal);
     plain(e)
 }
 
@@ -136,10 +136,10 @@ fn plainly(c: Compared) -> Comparison
 pub extern "C" fn rtk_compare(register: &[u8], first: u64, second: u64, axis: u64) -> Comparison
     ensures { λ r. ⌜ r ≡ comparisonOf (called (ask (compare first second axis)) (now (register .entry)) .answer) ⌝ }
 {
-    let a = lent::found(register, first);
-    let b = lent::picked(register, second);
+    let a = shelf::found(register, first);
+    let b = shelf::picked(register, second);
     let mut c = pairs::compare(a, b, axis);
-    c.refusal = lent::turned_away(first, c.refusal);
-    c.refusal = lent::turned_away(second, c.refusal);
+    c.refusal = shelf::turned_away(first, c.refusal);
+    c.refusal = shelf::turned_away(second, c.refusal);
     plainly(c)
 }

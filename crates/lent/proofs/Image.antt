@@ -21,8 +21,7 @@ use Rattle.book.specs.Meaning.{meant, bookForm}
 use Rattle.book.proofs.Meaning.{form-book, form-formed, meant-image, form-image}
 use Rattle.stored.specs.Image.{BOOK, bookBytes, bookAt}
 use Rattle.stored.proofs.Image.{Bytes, sized-at, book-drop, bytes-book, length-book, paste-start, book-front, closed-bytes}
-use Rattle.lent.specs.Image.{LENGTH, image, formFrom, meantFrom, inForm, stateOf}
-use Rattle.lent.specs.Calls.{formBetween}
+use Rattle.lent.specs.Image.{LENGTH, image, formFrom, meantFrom, inForm, formBetween, stateOf}
 
 bytes-drop : (m : ℕ) (bs : List ℕ) → Bytes bs → Bytes (drop m bs)
 bytes-drop m bs h i = rw getD-drop (h (m + i))

@@ -1,6 +1,6 @@
 -- A register in bytes: sixteen books, one after another.
 -- (proofs/Image.antt: bytes that hold a register in form are its image, and each register in form is held by its image: one state, one image.)
-use Prim.Native.Nat.{ℕ, zero, suc}
+use Prim.Native.Nat.{ℕ, zero, suc, _-_, _*_}
 use mathlib.Core.Bool.{Bool, true, cond, _&&_}
 use mathlib.Core.Option.{Option, none, some}
 use mathlib.Core.List.{List, [], _∷_, _++_}
@@ -37,3 +37,7 @@ inForm bs = eqb (length bs) LENGTH && formFrom BOOKS bs
 -- the register that the bytes hold; none where they are not in form
 unfoldable pub stateOf : List ℕ → Option paper.Register
 stateOf bs = cond (inForm bs) (some (meantFrom BOOKS bs)) none
+
+-- the length is right, and the books from one to another are in form, counted from 0, the last not among them
+unfoldable pub formBetween : ℕ → ℕ → List ℕ → Bool
+formBetween from to bs = eqb (length bs) LENGTH && formFrom (to - from) (drop (from * BOOK) bs)

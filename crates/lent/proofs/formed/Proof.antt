@@ -1,5 +1,4 @@
-use Rattle.lent.specs.Image.{inForm}
-use Rattle.lent.specs.Calls.{formBetween}
+use Rattle.lent.specs.Image.{inForm, formBetween}
 use borrow.Author.Needs.{needs}
 use Rattle.lent.proofs.formed.Statement.{statement}
 use Rattle.lent.proofs.formed.Tie as tie

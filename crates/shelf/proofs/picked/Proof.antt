@@ -3,10 +3,10 @@ use borrow.Author.Tests.{eq-eqb, ne-eqb}
 use Rattle.paper.specs.Procedure.{BOOKS}
 use Rattle.paper.proofs.Tests.{among}
 use Rattle.form.proofs.Laws.{known}
-use Rattle.lent.specs.Calls.{pickedOf}
+use Rattle.shelf.specs.Steps.{pickedOf}
 use borrow.Author.Needs.{needs}
-use Rattle.lent.proofs.picked.Statement.{statement}
-use Rattle.lent.proofs.picked.Tie as tie
+use Rattle.shelf.proofs.picked.Statement.{statement}
+use Rattle.shelf.proofs.picked.Tie as tie
 
 closed-requires : tie.Need-closed-requires
 closed-requires c κs = search needs

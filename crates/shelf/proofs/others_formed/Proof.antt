@@ -2,10 +2,10 @@ use native.Mathlib.Omega.{arith}
 use Rattle.paper.specs.Procedure.{BOOKS}
 use Rattle.paper.proofs.Tests.{among}
 use Rattle.form.proofs.Laws.{known}
-use Rattle.lent.specs.Calls.{othersForm}
+use Rattle.shelf.specs.Steps.{othersForm}
 use borrow.Author.Needs.{needs}
-use Rattle.lent.proofs.others_formed.Statement.{statement}
-use Rattle.lent.proofs.others_formed.Tie as tie
+use Rattle.shelf.proofs.others_formed.Statement.{statement}
+use Rattle.shelf.proofs.others_formed.Tie as tie
 
 is-book-requires : tie.Need-is-book-requires
 is-book-requires c κs = search needs

@@ -1,8 +1,8 @@
 use Rattle.form.proofs.Laws.{known}
-use Rattle.lent.specs.Calls.{foundOf}
+use Rattle.shelf.specs.Steps.{foundOf}
 use borrow.Author.Needs.{needs}
-use Rattle.lent.proofs.found.Statement.{statement}
-use Rattle.lent.proofs.found.Tie as tie
+use Rattle.shelf.proofs.found.Statement.{statement}
+use Rattle.shelf.proofs.found.Tie as tie
 
 picked-requires : tie.Need-picked-requires
 picked-requires c κs = search needs

@@ -1,8 +1,8 @@
 use native.Mathlib.Omega.{arith}
-use Rattle.lent.proofs.Calls.{away-not, kept-back, written}
+use Rattle.shelf.proofs.Ways.{away-not, kept-back, written}
 use borrow.Author.Needs.{needs}
-use Rattle.lent.proofs.put_back.Statement.{statement}
-use Rattle.lent.proofs.put_back.Tie as tie
+use Rattle.shelf.proofs.put_back.Statement.{statement}
+use Rattle.shelf.proofs.put_back.Tie as tie
 
 turned-away-requires : tie.Need-turned-away-requires
 turned-away-requires c κs = search needs

@@ -1,6 +1,6 @@
 use borrow.Author.Tests.{le-leb, lt-leb}
-use Rattle.lent.proofs.is_book.Statement.{statement}
-use Rattle.lent.proofs.is_book.Tie as tie
+use Rattle.shelf.proofs.is_book.Statement.{statement}
+use Rattle.shelf.proofs.is_book.Tie as tie
 
 returns : tie.Need-returns
 returns c =

@@ -1,9 +1,9 @@
 use borrow.Author.Tests.{eq-eqb, ne-eqb}
 use Rattle.form.proofs.Laws.{known}
-use Rattle.lent.specs.Calls.{turnedAway}
+use Rattle.shelf.specs.Steps.{turnedAway}
 use borrow.Author.Needs.{needs}
-use Rattle.lent.proofs.turned_away.Statement.{statement}
-use Rattle.lent.proofs.turned_away.Tie as tie
+use Rattle.shelf.proofs.turned_away.Statement.{statement}
+use Rattle.shelf.proofs.turned_away.Tie as tie
 
 returns : tie.Need-returns
 unfolding turnedAway
