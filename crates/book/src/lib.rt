@@ -4,7 +4,8 @@ ghost use mathlib.Core.List.{[], _∷_};
 ghost use mathlib.Core.Option.{none};
 ghost use Prim.Native.Nat.{_<_};
 ghost use lib.ListN.{getD};
-ghost use Rattle.paper.specs.Calls.{begin, strike, enter, correct, withdraw, takeBack, changes};
+ghost use Rattle.paper.specs.Procedure.{PLACES};
+ghost use Rattle.paper.specs.Calls.{begin, strike, enter, correct, withdraw, takeBack};
 ghost use Rattle.image.specs.Lengths.{wordOr, termsOf, termsGiven};
 ghost use Rattle.book.specs.Meaning.{bookOf, bookForm};
 ghost use Rattle.book.specs.Steps.{stepOf, aimOf, soughtOf, changedOf, undoneOf, placedOf, begunOf};
@@ -56,7 +57,7 @@ pub fn in_form(b: Book) -> bool
 impl Book {
     // The book with three words at a place, and what stood there kept.
     fn changed(mut self, place: usize, x: u64, y: u64, h: u64) -> Book
-        requires { ⌜ place < 30 ⌝ }
+        requires { ⌜ place < PLACES ⌝ }
         ensures { λ r. ⌜ r ≡ changedOf self place (x ∷ y ∷ h ∷ []) ⌝ }
     {
         let old = self.cells;
@@ -71,7 +72,7 @@ impl Book {
 
     // The book without its latest change.
     fn undone(mut self) -> Book
-        requires { ⌜ (getD (self .changes) 0 0 < 30) × (0 < self .kept) ⌝ }
+        requires { ⌜ (getD (self .changes) 0 0 < PLACES) × (0 < self .kept) ⌝ }
         ensures { λ r. ⌜ r ≡ undoneOf self ⌝ }
     {
         let old = self.cells;
@@ -141,7 +142,7 @@ impl Book {
 
     // A reading where the call goes: what refuses it there, FAR, or the change.
     fn placed(self, aim: Aim, x: i64, y: i64, h: i64) -> Step
-        requires { ⌜ (aim .refusal ≡ 0 → aim .place < 30) ⌝ }
+        requires { ⌜ (aim .refusal ≡ 0 → aim .place < PLACES) ⌝ }
         ensures { λ r. ⌜ r ≡ placedOf self aim (wordOr x) (wordOr y) (wordOr h) ⌝ }
     {
         if aim.refusal != 0 {

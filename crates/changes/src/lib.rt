@@ -2,6 +2,7 @@
 ghost use mathlib.Core.Path.{_≡_};
 ghost use Prim.Native.Nat.{_+_, _*_, _<_};
 ghost use lib.ListN.{length, getD};
+ghost use Rattle.paper.specs.Procedure.{PLACES};
 ghost use Rattle.changes.specs.Kept.{pushed, popped, more};
 use procedure::Procedure;
 
@@ -32,7 +33,7 @@ fn push(old: [u64; 128], place: u64, x: u64, y: u64, h: u64) -> [u64; 128]
 
 // The kept changes with one more, of a place and what stands there.
 pub fn keep(old: [u64; 128], cells: &[u64; 90], place: usize) -> [u64; 128]
-    requires { ⌜ place < 30 ⌝ }
+    requires { ⌜ place < PLACES ⌝ }
     ensures { λ r. ⌜ r ≡ pushed old place (getD (now (cells .entry)) (place * 3) 0) (getD (now (cells .entry)) (place * 3 + 1) 0) (getD (now (cells .entry)) (place * 3 + 2) 0) ⌝ }
 {
     let m = place * 3;

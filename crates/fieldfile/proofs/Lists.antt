@@ -8,6 +8,7 @@ use native.Mathlib.Omega.{arith}
 use lib.ListN.{length, take, drop, getD, take-append-drop, length-drop, drop-of-length-le}
 use lib.Seq.{drop-cons, take-all, length-take-le, take-at, drop-at, drop-drop}
 use lib.IntN.{ℤ, pos}
+use Rattle.paper.specs.Procedure.{PLACES}
 use Rattle.paper.specs.Units.{Terms, Places, inOrder}
 use Rattle.fieldfile.specs.Form.{termList, ofSeries, lines, ShortSpots}
 use Rattle.fieldfile.specs.Reader.{tripleFrom, termsFrom}
@@ -38,7 +39,7 @@ from-terms t = refl
 
 -- ---- the places of the three series
 
-module _ (l : Places) (n : length l ≡ 30) where
+module _ (l : Places) (n : length l ≡ PLACES) where
   pub length-series : (i : ℕ) → 1 ≤ i → i ≤ 3 → length (ofSeries i l) ≡ 10
   unfolding ofSeries inOrder
   length-series i p q = length-take-le 10 (drop (((i - 1) * 5 + 0) * 2 + 0) l) (rw length-drop (omega arith))

@@ -85,5 +85,6 @@ abbrev pub taken : {A : Type 0} → Parsed A → Option A
 taken bad = none
 taken (got a l) = some a
 
+-- what a file holds; none where it is not of the form
 unfoldable pub readOf : List ℕ → Option (Terms × Places)
 readOf bs = cond (leb (length bs) LONGEST) (taken (whole bs)) none

@@ -4,6 +4,7 @@ ghost use mathlib.Core.Path.{_≡_};
 ghost use Prim.Native.Nat.{_*_, _<_};
 ghost use lib.ListN.{length};
 ghost use lib.Dec.{eqb};
+ghost use Rattle.paper.specs.Procedure.{PLACES};
 ghost use Rattle.paper.specs.Units.{nearAt, allNear, isEmpty};
 ghost use Rattle.paper.specs.TurnedAway.{some?};
 ghost use Rattle.image.specs.Lengths.{termsOf};
@@ -30,7 +31,7 @@ pub fn mark(x: u64, y: u64, h: u64) -> u64
 
 // The place is empty.
 pub fn empty_at(cells: &[u64; 90], place: usize) -> bool
-    requires { ⌜ place < 30 ⌝ }
+    requires { ⌜ place < PLACES ⌝ }
     ensures { λ r. ⌜ r ≡ isEmpty (spotAt (now (cells .entry)) (place * 3)) ⌝ }
 {
     let m = place * 3;
@@ -39,7 +40,7 @@ pub fn empty_at(cells: &[u64; 90], place: usize) -> bool
 
 // The mark of what stands at a place.
 fn mark_at(cells: &[u64; 90], place: usize) -> u64
-    requires { ⌜ place < 30 ⌝ }
+    requires { ⌜ place < PLACES ⌝ }
     ensures { λ r. ⌜ eqb r 0 ≡ isEmpty (spotAt (now (cells .entry)) (place * 3)) ⌝ }
 {
     let m = place * 3;
@@ -48,7 +49,7 @@ fn mark_at(cells: &[u64; 90], place: usize) -> u64
 
 // Nothing at the place, or a reading near its point.
 fn near_at(t: &[u64; 12], cells: &[u64; 90], place: usize) -> bool
-    requires { ⌜ place < 30 ⌝ }
+    requires { ⌜ place < PLACES ⌝ }
     ensures { λ r. ⌜ r ≡ nearAt (termsOf (now (t .entry))) place (spotAt (now (cells .entry)) (place * 3)) ⌝ }
 {
     let m = place * 3;

@@ -3,11 +3,12 @@ ghost use mathlib.Core.Path.{_≡_};
 ghost use mathlib.Core.List.{[], _∷_};
 ghost use Prim.Native.Nat.{_*_, _<_};
 ghost use lib.ListN.{getD};
+ghost use Rattle.paper.specs.Procedure.{PLACES};
 ghost use Rattle.words.specs.Paste.{pasted};
 
 // The places with three words at one of them.
 pub fn put(old: [u64; 90], place: usize, x: u64, y: u64, h: u64) -> [u64; 90]
-    requires { ⌜ place < 30 ⌝ }
+    requires { ⌜ place < PLACES ⌝ }
     ensures { λ r. ⌜ r ≡ pasted old (place * 3) (x ∷ y ∷ h ∷ []) ⌝ }
 {
     let mut out = old;
@@ -20,7 +21,7 @@ pub fn put(old: [u64; 90], place: usize, x: u64, y: u64, h: u64) -> [u64; 90]
 
 // The places with the latest kept change taken back.
 pub fn take_back(cells: [u64; 90], changes: &[u64; 128]) -> [u64; 90]
-    requires { ⌜ getD (now changes) 0 0 < 30 ⌝ }
+    requires { ⌜ getD (now changes) 0 0 < PLACES ⌝ }
     ensures { λ r. ⌜ r ≡ pasted cells (getD (now (changes .entry)) 0 0 * 3) (getD (now (changes .entry)) 1 0 ∷ getD (now (changes .entry)) 2 0 ∷ getD (now (changes .entry)) 3 0 ∷ []) ⌝ }
 {
     put(

@@ -5,7 +5,7 @@ use lib.ListN.{getD}
 use lib.IntN.{_-ℤ_}
 use Rattle.paper.specs.Procedure.{SETS, POINTS}
 use Rattle.paper.specs.Screening.{square, Suspect}
-use Rattle.image.specs.Lengths.{tripleAt}
+use Rattle.image.specs.Lengths.{ORIGIN, tripleAt}
 
 -- where the words of a set start
 abbrev pub wordsFrom : ℕ → ℕ → ℕ
@@ -13,7 +13,7 @@ wordsFrom i j = ((i - 1) * SETS + (j - 1)) * POINTS * 3
 
 -- the words of one axis (0 x, 1 y, 2 h) differ by at most 700,000
 abbrev pub Near : List ℕ → ℕ → ℕ → Type 0
-Near l m a = (getD l (m + (3 + a)) 0 ≤ getD l (m + a) 0 + 700000) × (getD l (m + a) 0 ≤ getD l (m + (3 + a)) 0 + 700000) × (getD l (m + (3 + a)) 0 ≤ 1100000100000)
+Near l m a = (getD l (m + (3 + a)) 0 ≤ getD l (m + a) 0 + 700000) × (getD l (m + a) 0 ≤ getD l (m + (3 + a)) 0 + 700000) × (getD l (m + (3 + a)) 0 ≤ ORIGIN + 100000100000)
 
 -- q of the set whose words start at m
 unfoldable pub qOf : List ℕ → ℕ → ℕ

@@ -26,6 +26,7 @@ othersForm bs k = cond (oneTo BOOKS k) (formBetween 0 (k - 1) bs && formBetween 
 abbrev pub unformed : Book → Book
 unformed b = record { opened = 2; terms = b .terms; cells = b .cells; kept = b .kept; changes = b .changes }
 
+-- the book of that number, made one that is not in form where another is not
 unfoldable pub foundOf : List ℕ → ℕ → Book
 foundOf bs k = cond (othersForm bs k) (pickedOf bs k) (unformed (pickedOf bs k))
 

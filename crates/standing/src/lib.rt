@@ -2,6 +2,7 @@
 ghost use mathlib.Core.Path.{_≡_};
 ghost use mathlib.Core.Bool.{_&&_};
 ghost use Prim.Native.Nat.{_≤_};
+ghost use Rattle.paper.specs.Procedure.{KEPT};
 ghost use Rattle.paper.specs.Units.{allNear};
 ghost use Rattle.paper.specs.Form.{takeable};
 ghost use Rattle.image.specs.Lengths.{termsOf};
@@ -28,7 +29,7 @@ fn change_ok(t: &[u64; 12], marks: &[u64; 30], place: u64, x: u64, y: u64, h: u6
 // Every reading is near its point, and the kept changes can be taken back one after another from these places. Of what stands at a place
 // taking back asks no more than its mark, so that no place has to be copied.
 pub fn all_stand(t: &[u64; 12], cells: &[u64; 90], kept: u64, changes: &[u64; 128]) -> bool
-    requires { ⌜ kept ≤ 32 ⌝ }
+    requires { ⌜ kept ≤ KEPT ⌝ }
     ensures { λ r. ⌜ r ≡ (allNear (termsOf (now (t .entry))) 0 (placesOf (now (cells .entry))) && takeable (termsOf (now (t .entry))) (placesOf (now (cells .entry))) (entries kept (now (changes .entry)))) ⌝ }
 {
     let n = kept as usize;

@@ -6,7 +6,7 @@ use Rattle.integers.specs.Sigma.{ΣN}
 use Rattle.paper.specs.Procedure.{ROUNDS}
 use Rattle.paper.specs.Units.{Terms, Places}
 use Rattle.paper.specs.Figures.{Qx, Qy, Qh, P}
-use Rattle.image.proofs.Ready.{kept}
+use Rattle.image.specs.Ready.{kept}
 use Rattle.sums.specs.declared.Added.{Added}
 use Rattle.sums.specs.declared.Totals.{Totals}
 

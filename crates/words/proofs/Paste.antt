@@ -2,12 +2,12 @@
 -- Assumes nothing.
 use mathlib.Core.Path.{_≡_, refl, sym, ap, _∙_}
 use mathlib.Core.List.{List, [], _∷_, _++_, append-assoc, append-nil}
-use Prim.Native.Nat.{ℕ, zero, suc, _+_, _*_, _/_, _^_, _≤_, _<_}
+use Prim.Native.Nat.{ℕ, zero, suc, _+_, _*_, _/_, _%_, _^_, _≤_, _<_}
 use native.Mathlib.Numerals.{add-one, unary-clauses}
 use native.Mathlib.Omega.{arith}
 use native.Mathlib.Nat.{add-zero, zero-add, suc-add, mul-suc}
 use lib.ListN.{set, length, take, drop, getD, length-append, take-append-drop}
-use lib.Seq.{length-take-le, take-at, drop-at, drop-append-add, drop-drop, take-suc, take-nil, take-take, sets-eq}
+use lib.Seq.{length-take-le, take-at, drop-at, drop-append-add, drop-drop, take-suc, take-nil, take-take, sets, sets-eq}
 use Rattle.words.specs.Words.{le, digits, words, bytesOf}
 use Rattle.words.specs.Paste.{pasted}
 use Rattle.words.proofs.Words.{load-turn, le-digits, bytesOf-append, length-bytesOf, length-digits, digits-parts}
@@ -87,9 +87,17 @@ words-take (suc n) l =
     let e : 8 * suc n ≡ 8 + 8 * n = omega (arith, mul-suc 8 n) in
     rw (e, take-take 8 (8 + 8 * n) l (omega arith), drop-take 8 (8 * n) l, words-take n (drop 8 l))
 
--- three stores, one after the other
-pub three-pasted : (l : List ℕ) (p x y h : ℕ) → p * 3 + 3 ≤ length l → set (set (set l (p * 3) x) (p * 3 + 1) y) (p * 3 + 2) h ≡ pasted l (p * 3) (x ∷ y ∷ h ∷ [])
+-- ---- stores, one after the other
+
+stores-pasted : (vs l : List ℕ) (at : ℕ) → at + length vs ≤ length l → sets l at vs ≡ pasted l at vs
 unfolding pasted
-three-pasted l p x y h k =
-    let e = sets-eq (x ∷ y ∷ h ∷ []) l (p * 3) k ∙ append-assoc (take (p * 3) l) (x ∷ y ∷ h ∷ []) (drop (p * 3 + 3) l) in
-    simp unary-clauses (simp unary-clauses at e)
+stores-pasted vs l at h = sets-eq vs l at h ∙ append-assoc (take at l) vs (drop (at + length vs) l)
+
+pub three-pasted : (l : List ℕ) (p x y h : ℕ) → p * 3 + 3 ≤ length l → set (set (set l (p * 3) x) (p * 3 + 1) y) (p * 3 + 2) h ≡ pasted l (p * 3) (x ∷ y ∷ h ∷ [])
+three-pasted l p x y h k = simp unary-clauses (stores-pasted (x ∷ y ∷ h ∷ []) l (p * 3) k)
+
+pub four-pasted : (l : List ℕ) (at w : ℕ) → at + 4 ≤ length l
+    → set (set (set (set l at (w % 256)) (at + 1) (w / 256 % 256)) (at + 2) (w / 256 / 256 % 256)) (at + 3) (w / 256 / 256 / 256 % 256)
+    ≡ pasted l at (digits 4 w)
+unfolding digits
+four-pasted l at w h = simp unary-clauses (stores-pasted (digits 4 w) l at h)

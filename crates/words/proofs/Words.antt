@@ -1,15 +1,14 @@
 -- Laws of words in a row of bytes.
 -- Assumes nothing.
-use mathlib.Core.Path.{_≡_, refl, sym, ap, subst, _∙_}
+use mathlib.Core.Path.{_≡_, refl, sym, ap, subst}
 use mathlib.Core.List.{List, [], _∷_, _++_, append-assoc}
 use Prim.Native.Nat.{ℕ, zero, suc, _+_, _*_, _/_, _%_, _^_, _≤_, _<_}
 use native.Mathlib.Numerals.{add-one, unary-clauses}
 use native.Mathlib.Omega.{arith}
 use native.Mathlib.Nat.{mul-suc, mul-zero, add-zero, mul-comm, suc-add, zero-add, mul-assoc, pow-succ', div-one, div-div-eq-div-mul}
 use lib.ListN.{set, length, take, drop, getD, take-append-drop, length-append, length-drop}
-use lib.Seq.{set-at, append-snoc, sets-eq, drop-cons, drop-drop, length-take-le, getD-drop}
+use lib.Seq.{set-at, append-snoc, drop-cons, drop-drop, length-take-le, getD-drop}
 use Rattle.words.specs.Words.{le, fourAt, digits, words, bytesOf}
-use Rattle.words.specs.Paste.{pasted}
 
 -- ---- digits
 
@@ -124,12 +123,3 @@ pub load-turn : (bs out₀ : List ℕ) (i : ℕ) → i < length out₀
 unfolding words
 load-turn bs out₀ i h =
     rw (drop-cons out₀ i 0, set-at (words i bs) _ _ _ i (length-words i bs), words-add i 1 bs, append-snoc, add-one i, mul-comm i 8)
-
--- four stores, one after the other
-pub four-pasted : (l : List ℕ) (at w : ℕ) → at + 4 ≤ length l
-    → set (set (set (set l at (w % 256)) (at + 1) (w / 256 % 256)) (at + 2) (w / 256 / 256 % 256)) (at + 3) (w / 256 / 256 / 256 % 256)
-    ≡ pasted l at (digits 4 w)
-unfolding digits pasted
-four-pasted l at w h =
-    let e = sets-eq (digits 4 w) l at h ∙ append-assoc (take at l) (digits 4 w) (drop (at + 4) l) in
-    simp unary-clauses (simp unary-clauses at e)

@@ -13,7 +13,7 @@ use Rattle.listing.proofs.listed.Tie as tie
 
 abbrev Inv-loop : tie.InvT-loop
 Inv-loop register numbers₀ count₀ k₀ numbers count k =
-    (k ≤ BOOKS) × (count ≤ k) × (length numbers ≡ 16) × (take count numbers ≡ listedBy register k)
+    (k ≤ BOOKS) × (count ≤ k) × (length numbers ≡ BOOKS) × (take count numbers ≡ listedBy register k)
 
 abbrev μ-loop : tie.MeasureT-loop
 μ-loop register numbers₀ count₀ k₀ numbers count k =

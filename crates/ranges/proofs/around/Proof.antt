@@ -4,19 +4,15 @@ use borrow.Author.Needs.{needs}
 use Rattle.ranges.proofs.around.Statement.{statement}
 use Rattle.ranges.proofs.around.Tie as tie
 
--- src/lib.rt:35:5
 close-requires : tie.Need-close-requires
 close-requires c κs = search needs
 
--- src/lib.rt:35:23
 close-requires-2 : tie.Need-close-requires-2
 close-requires-2 c κs = search needs
 
--- src/lib.rt:35:41
 close-requires-3 : tie.Need-close-requires-3
 close-requires-3 c κs = search needs
 
--- src/lib.rt:32:1
 returns : tie.Need-returns
 unfolding within
 returns c =

@@ -4,59 +4,45 @@ use borrow.Author.Needs.{needs}
 use Rattle.ranges.proofs.in_range.Statement.{statement}
 use Rattle.ranges.proofs.in_range.Tie as tie
 
--- src/lib.rt:57:20
 element-copy-out-one-to : tie.Need-element-copy-out-one-to
 element-copy-out-one-to c = search needs
 
--- src/lib.rt:57:5
 one-to-requires : tie.Need-one-to-requires
 one-to-requires c κs = search needs
 
--- src/lib.rt:58:31
 element-copy-out-close : tie.Need-element-copy-out-close
 element-copy-out-close c = search needs
 
--- src/lib.rt:58:11
 close-requires : tie.Need-close-requires
 close-requires c κs = search needs
 
--- src/lib.rt:59:25
 element-copy-out-one-to-2 : tie.Need-element-copy-out-one-to-2
 element-copy-out-one-to-2 c = search needs
 
--- src/lib.rt:59:11
 one-to-requires-2 : tie.Need-one-to-requires-2
 one-to-requires-2 c κs = search needs
 
--- src/lib.rt:60:25
 element-copy-out-one-to-3 : tie.Need-element-copy-out-one-to-3
 element-copy-out-one-to-3 c = search needs
 
--- src/lib.rt:60:11
 one-to-requires-3 : tie.Need-one-to-requires-3
 one-to-requires-3 c κs = search needs
 
--- src/lib.rt:61:25
 element-copy-out-one-to-4 : tie.Need-element-copy-out-one-to-4
 element-copy-out-one-to-4 c = search needs
 
--- src/lib.rt:61:11
 one-to-requires-4 : tie.Need-one-to-requires-4
 one-to-requires-4 c κs = search needs
 
--- src/lib.rt:62:25
 element-copy-out-one-to-5 : tie.Need-element-copy-out-one-to-5
 element-copy-out-one-to-5 c = search needs
 
--- src/lib.rt:62:11
 one-to-requires-5 : tie.Need-one-to-requires-5
 one-to-requires-5 c κs = search needs
 
--- src/lib.rt:63:11
 points-ok-requires : tie.Need-points-ok-requires
 points-ok-requires c κs = search needs
 
--- src/lib.rt:54:1
 returns : tie.Need-returns
 returns c =
     both (both (both (both (both (both (c .before .before .before .before .before .before .before .before .before .before .before .one-to .ensures) (c .before .before .before .before .before .before .before .before .before .close .ensures ∙ from-zero _ _)) (c .before .before .before .before .before .before .before .one-to2 .ensures)) (c .before .before .before .before .before .one-to3 .ensures)) (c .before .before .before .one-to4 .ensures)) (c .before .one-to5 .ensures)) (c .points-ok .ensures)

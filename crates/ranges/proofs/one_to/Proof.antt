@@ -3,11 +3,9 @@ use borrow.Author.Needs.{needs}
 use Rattle.ranges.proofs.one_to.Statement.{statement}
 use Rattle.ranges.proofs.one_to.Tie as tie
 
--- src/lib.rt:18:24
 add-result : tie.Need-add-result
 add-result c = search needs
 
--- src/lib.rt:14:1
 returns : tie.Need-returns
 returns c =
     one-is _ _

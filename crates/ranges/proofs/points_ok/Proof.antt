@@ -5,43 +5,33 @@ use borrow.Author.Needs.{needs}
 use Rattle.ranges.proofs.points_ok.Statement.{statement}
 use Rattle.ranges.proofs.points_ok.Tie as tie
 
--- src/lib.rt:42:13
 element-copy-out-x : tie.Need-element-copy-out-x
 element-copy-out-x c = search needs
 
--- src/lib.rt:43:13
 element-copy-out-y : tie.Need-element-copy-out-y
 element-copy-out-y c = search needs
 
--- src/lib.rt:44:13
 element-copy-out-h : tie.Need-element-copy-out-h
 element-copy-out-h c = search needs
 
--- src/lib.rt:45:14
 element-copy-out-x2 : tie.Need-element-copy-out-x2
 element-copy-out-x2 c = search needs
 
--- src/lib.rt:46:14
 element-copy-out-y2 : tie.Need-element-copy-out-y2
 element-copy-out-y2 c = search needs
 
--- src/lib.rt:47:14
 element-copy-out-h2 : tie.Need-element-copy-out-h2
 element-copy-out-h2 c = search needs
 
--- src/lib.rt:48:5
 around-requires : tie.Need-around-requires
 around-requires c κs = search needs
 
--- src/lib.rt:49:11
 around-requires-2 : tie.Need-around-requires-2
 around-requires-2 c κs = search needs
 
--- src/lib.rt:50:11
 around-requires-3 : tie.Need-around-requires-3
 around-requires-3 c κs = search needs
 
--- src/lib.rt:39:1
 returns : tie.Need-returns
 unfolding tripleAt
 returns c =

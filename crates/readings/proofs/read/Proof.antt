@@ -4,6 +4,7 @@ use mathlib.Core.Path.{_≡_, _∙_}
 use mathlib.Core.Bool.{false}
 use mir.Syntax.{w64}
 use mir.Val.{toZ, ofZ}
+use Rattle.paper.specs.Procedure.{PLACES}
 use Rattle.paper.specs.Units.{Place, isEmpty}
 use Rattle.image.specs.Places.{spotAt}
 use Rattle.book.proofs.Meaning.{Sized}
@@ -26,7 +27,7 @@ here : (c : tie.After-struct-known2)
 unfolding at-of
 here c = read-on _ _ (c .before .before .before .before .sought .result) (c .before .before .before .before .sought .ensures) (c .before .before .if1 .left)
 
-there : (c : tie.After-struct-known2) → c .before .before .before .before .sought .result .place < 30
+there : (c : tie.After-struct-known2) → c .before .before .before .before .sought .result .place < PLACES
 there c = place-small _ (sized (c .before .before .before .before .before)) _ _ (here c .0)
 
 sought-requires : tie.Need-sought-requires

@@ -2,6 +2,7 @@ use native.Mathlib.Omega.{arith}
 use mathlib.Core.Path.{_≡_, sym, _∙_}
 use lib.Seq.{length-take-le}
 use lib.ListN.{length}
+use Rattle.paper.specs.Procedure.{BOOKS}
 use Rattle.form.proofs.Laws.{known}
 use Rattle.register.proofs.Ways.{list-unformed, list-room, list-written}
 use borrow.Author.Needs.{needs}
@@ -22,23 +23,23 @@ returns : tie.Need-returns
 returns c =
     let s = c .before .before .before .before .before .before .before .before in
     let r = c .before .before .before .listed in
-    let l : length (r .result .numbers) ≡ 16 = search needs in
+    let l : length (r .result .numbers) ≡ BOOKS = search needs in
     let w = list-room (s .args .register .now) (s .args .list .now) (known (c .before .before .before .before .before .formed .ensures) (c .before .before .before .before .if1 .taken)) (r .result .numbers) (r .result .count) (r .ensures .0) (omega (arith, l, r .ensures .1)) (c .before .if2 .taken) in
     (c .no-count .ensures ∙ w .0, w .1)
 
 array-share-prefix-numbers : tie.Need-array-share-prefix-numbers
 array-share-prefix-numbers c =
-    let l : length (c .before .before .listed .result .numbers) ≡ 16 = search needs in
+    let l : length (c .before .before .listed .result .numbers) ≡ BOOKS = search needs in
     omega (arith, l, c .before .before .listed .ensures .1)
 
 slice-aggregate-write : tie.Need-slice-aggregate-write
 slice-aggregate-write c =
-    let l : length (c .before .before .before .listed .result .numbers) ≡ 16 = search needs in
+    let l : length (c .before .before .before .listed .result .numbers) ≡ BOOKS = search needs in
     sym (length-take-le _ _ (omega (arith, l, c .before .before .before .listed .ensures .1)))
 
 write-requires : tie.Need-write-requires
 write-requires c κs =
-    let l : length (c .before .before .before .before .listed .result .numbers) ≡ 16 = search needs in
+    let l : length (c .before .before .before .before .listed .result .numbers) ≡ BOOKS = search needs in
     omega (arith, l, c .before .before .before .before .listed .ensures .1, length-take-le (c .before .before .before .before .listed .result .count) (c .before .before .before .before .listed .result .numbers) (omega (arith, l, c .before .before .before .before .listed .ensures .1)), c .before .before .if2 .left)
 
 same-length : tie.Need-same-length
@@ -48,7 +49,7 @@ returns-2 : tie.Need-returns-2
 returns-2 c =
     let s = c .before .before .before .before .before .before .before .before .before .before .before .before in
     let r = c .before .before .before .before .before .before .before .listed in
-    let l : length (r .result .numbers) ≡ 16 = search needs in
+    let l : length (r .result .numbers) ≡ BOOKS = search needs in
     list-written (s .args .register .now) (s .args .list .now) (known (c .before .before .before .before .before .before .before .before .before .formed .ensures) (c .before .before .before .before .before .before .before .before .if1 .taken)) (r .result .numbers) (r .result .count) (r .ensures .0) (omega (arith, l, r .ensures .1)) _ (c .before .before .before .before .before .if2 .left) (c .before .before .write .ensures)
 
 no-count-requires-2 : tie.Need-no-count-requires-2

@@ -4,6 +4,7 @@ use Prim.Native.Nat.{ℕ, _-_, _*_, _≤_, _<_}
 use native.Mathlib.Omega.{arith}
 use lib.ListN.{getD}
 use borrow.Author.Needs.{needs}
+use Rattle.paper.specs.Procedure.{PLACES}
 use Rattle.paper.specs.Units.{allNear}
 use Rattle.image.specs.Lengths.{termsOf}
 use Rattle.image.specs.Places.{placesOf}
@@ -18,11 +19,11 @@ abbrev μ-loop : tie.MeasureT-loop
 μ-loop t cells kept changes n marks₀ near j₀ marks j = n - j
 
 -- the place of a change that can be taken back, without the facts of the loop
-reached : (c : tie.Then1 Inv-loop μ-loop) → getD (c .before .before .before .before .before .before .before .before .before .before .before .before .args .changes .now) (c .before .before .before .before .before .before .before .before .loop .j * 4) 0 < 30
+reached : (c : tie.Then1 Inv-loop μ-loop) → getD (c .before .before .before .before .before .before .before .before .before .before .before .before .args .changes .now) (c .before .before .before .before .before .before .before .before .loop .j * 4) 0 < PLACES
 reached c =
     stands-reaches _ _ (c .before .before .before .before .before .before .before .before .before .before .before .before .args .changes .now) (c .before .before .before .before .before .before .before .before .before .before .before .before .args .kept) (c .before .before .before .before .before .before .before .before .loop .marks) (c .before .before .before .before .before .before .before .before .loop .j) (c .before .before .before .before .before .before .before .before .loop .inv .1) (c .before .change-ok .ensures) (c .if1 .taken)
 
-scaled : {p : ℕ} → p < 30 → Fits w64 (p * 8)
+scaled : {p : ℕ} → p < PLACES → Fits w64 (p * 8)
 scaled h = omega arith
 
 slice-aggregate-survey : tie.Need-slice-aggregate-survey Inv-loop μ-loop

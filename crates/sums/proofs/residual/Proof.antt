@@ -2,6 +2,7 @@
 use Prim.Native.Nat.{_*_, _<_}
 use native.Mathlib.Omega.{arith}
 use mathlib.Core.Path.{_∙_}
+use Rattle.paper.specs.Procedure.{ROUNDS}
 use borrow.Author.Needs.{needs}
 use Rattle.integers.specs.Machine.{minus-fits, minus-reads}
 use Rattle.sums.proofs.Laws.{residual-words}
@@ -31,8 +32,8 @@ sub-result c =
     let sums = c .before .before .added-up in
     let u = c .before .kept in
     let small : sums .result .s < 9223372036854775808 = omega (arith, sums .ensures .s-most) in
-    let small' : 15 * u .result < 9223372036854775808 = omega (arith, u .ensures .1) in
-    minus-fits (sums .result .s) (15 * u .result) small small'
+    let small' : ROUNDS * u .result < 9223372036854775808 = omega (arith, u .ensures .1) in
+    minus-fits (sums .result .s) (ROUNDS * u .result) small small'
 
 returns : tie.Need-returns
 returns c =
@@ -40,8 +41,8 @@ returns c =
     let sums = c .before .before .added-up in
     let u = c .before .kept in
     let small : sums .result .s < 9223372036854775808 = omega (arith, sums .ensures .s-most) in
-    let small' : 15 * u .result < 9223372036854775808 = omega (arith, u .ensures .1) in
-    minus-reads (sums .result .s) (15 * u .result) small small'
+    let small' : ROUNDS * u .result < 9223372036854775808 = omega (arith, u .ensures .1) in
+    minus-reads (sums .result .s) (ROUNDS * u .result) small small'
     ∙ residual-words (s .args .terms .now) (s .args .cells .now) (s .pre .2) (s .args .place) (s .args .axis) (s .pre .0) (s .pre .1) _ _ (sums .ensures .s) (u .ensures .0)
 
 pub residual-spec : {M : Type 1} → statement M

@@ -10,15 +10,12 @@ use Rattle.whole.proofs.greatest.Tie as tie
 below : (n a r : ℕ) → n < 2 ^ 64 → Root (n / a) r → r < 2 ^ 32
 below n a r h g = root-lt (lt-of-le-of-lt (le-trans (g .reaches) (div-le-self n a)) h)
 
--- src/lib.rt:30:10
 div-root : tie.Need-div-root
 div-root c = search needs
 
--- src/lib.rt:30:5
 root-requires : tie.Need-root-requires
 root-requires c κs = search needs
 
--- src/lib.rt:26:1
 returns : tie.Need-returns
 unfolding greatestOf
 returns c =
