@@ -11,14 +11,19 @@ pub const ORIGIN: u64 = 1000000000000;
 // The same, with a sign.
 const SHIFT: i64 = ORIGIN as i64;
 
+// The least and the greatest length that have a word.
+const LEAST: i64 = 1 - SHIFT;
+
+const GREATEST: i64 = SHIFT - 1;
+
 // The word of a length; 0 for a number that is no length.
 pub fn word_of(x: i64) -> u64
     ensures { λ r. ⌜ r ≡ wordOr x ⌝ }
 {
-    if x < -999999999999 {
+    if x < LEAST {
         return 0;
     }
-    if 999999999999 < x {
+    if GREATEST < x {
         return 0;
     }
     (x + SHIFT) as u64
