@@ -87,5 +87,5 @@ module _ (bs : List ℕ) (k : ℕ) (q : ℕ → Question) (o : OfOne q) (b : Boo
 
   pub evaluation-asked : (v : Evaluated) → v ≡ doubled (judgementOf (askedAlone q (seen b))) → r ≡ turnedAway k (v .refusal)
       → plainOf (record { refusal = r; series = v .series; set = v .set; quantity = v .quantity; sheet = v .sheet; xy = v .xy; h = v .h }) ≡ evaluationOf (called (ask (q k)) bs .answer)
-  unfolding evaluationOf doubled judgementOf turned
+  unfolding evaluationOf plainOf doubled judgementOf turned
   evaluation-asked v e w = rw (w, e) (ap evaluationOf (asked bs k q o b f))

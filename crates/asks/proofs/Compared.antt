@@ -77,5 +77,5 @@ module _ (bs : List ℕ) (j k axis : ℕ) where
 
   pub comparison-asked : (a b : Book) → a ≡ foundOf bs j → b ≡ pickedOf bs k → (v : Compared) (r r′ : ℕ) → v ≡ comparedOf (comparedAlone axis (seen a) (seen b)) → r ≡ turnedAway j (v .refusal) → r′ ≡ turnedAway k r
       → plainlyOf (record { refusal = r′; series = v .series; set = v .set; quantity = v .quantity; same = v .same }) ≡ comparisonOf (called (ask (compare j k axis)) bs .answer)
-  unfolding comparisonOf comparedOf turned
+  unfolding comparisonOf plainlyOf comparedOf turned
   comparison-asked a b ea eb v r r′ e w w′ = rw (w′, w, e) (ap comparisonOf (compared a b ea eb))

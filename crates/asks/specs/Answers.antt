@@ -1,17 +1,47 @@
 -- The paper's answers as the records of the boundary.
 use Prim.Native.Nat.{ℕ}
 use mathlib.Core.Bool.{Bool, true, false}
-use Rattle.paper.specs.Verdicts.{markOf}
+use Rattle.paper.specs.Figures.{doubles}
+use Rattle.paper.specs.Verdicts.{verdict, markOf}
 use Rattle.paper.specs.Answers.{Answer}
 use Rattle.doubles.specs.declared.Evaluated.{Evaluated}
 use Rattle.comparison.specs.declared.Compared.{Compared}
-use Rattle.evaluation.specs.Evaluating.{judgementOf}
-use Rattle.doubles.specs.Doubles.{doubled}
-use Rattle.comparison.specs.Comparing.{comparedOf}
+use Rattle.evaluation.specs.Evaluating.{evaluationIn}
+use Rattle.comparison.specs.Comparing.{sameIn}
 use Rattle.asks.specs.declared.Evaluation.{Evaluation}
 use Rattle.asks.specs.declared.Comparison.{Comparison}
 
--- a verdict is its number and two figures, by the paper's definition
+-- figures as doubles; a verdict is its number and two figures, by the paper's definition
+unfoldable pub evaluationOf : Answer → Evaluation
+evaluationOf a =
+    let e = evaluationIn (a .value) in
+    record {
+      refusal = a .refused;
+      series = a .suspect .series;
+      set = a .suspect .set;
+      quantity = a .suspect .quantity;
+      sheet = doubles (e .sheet);
+      xy = markOf (verdict (e .xy));
+      h = markOf (verdict (e .h));
+    }
+
+-- 1 the same, 0 not
+abbrev pub bit : Bool → ℕ
+bit true = 1
+bit false = 0
+
+unfoldable pub comparisonOf : Answer → Comparison
+comparisonOf a =
+    record {
+      refusal = a .refused;
+      series = a .suspect .series;
+      set = a .suspect .set;
+      quantity = a .suspect .quantity;
+      same = bit (sameIn (a .value));
+    }
+
+-- ---- of the records that the calls below the boundary give
+
 unfoldable pub plainOf : Evaluated → Evaluation
 plainOf e =
     record {
@@ -24,16 +54,5 @@ plainOf e =
       h = markOf (e .h);
     }
 
-unfoldable pub evaluationOf : Answer → Evaluation
-evaluationOf a = plainOf (doubled (judgementOf a))
-
--- 1 the same, 0 not
-abbrev pub bit : Bool → ℕ
-bit true = 1
-bit false = 0
-
 unfoldable pub plainlyOf : Compared → Comparison
 plainlyOf c = record { refusal = c .refusal; series = c .series; set = c .set; quantity = c .quantity; same = bit (c .same) }
-
-unfoldable pub comparisonOf : Answer → Comparison
-comparisonOf a = plainlyOf (comparedOf a)

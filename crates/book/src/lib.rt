@@ -10,6 +10,7 @@ ghost use Rattle.image.specs.Lengths.{wordOr, termsOf, termsGiven};
 ghost use Rattle.book.specs.Meaning.{bookOf, bookForm};
 ghost use Rattle.book.specs.Steps.{stepOf, aimOf, soughtOf, changedOf, undoneOf, placedOf, begunOf};
 use procedure::Procedure;
+use procedure::Refusal;
 
 // Words: a length is length + 10^12, three words 0 are an empty place; the changes kept for taking back, latest first, are four words
 // each, the place and what stood there.
@@ -100,20 +101,20 @@ impl Book {
             let place = image::place_of(series, set, point);
             if place >= Procedure::PLACES {
                 return Aim {
-                    refusal: 2,
+                    refusal: Refusal::PLACE,
                     place: 0,
                 };
             }
             if self.opened == 0 {
                 return Aim {
-                    refusal: 5,
+                    refusal: Refusal::CLOSED,
                     place: 0,
                 };
             }
             return Aim { refusal: 0, place };
         }
         Aim {
-            refusal: 1,
+            refusal: Refusal::REGISTER,
             place: 0,
         }
     }
@@ -162,7 +163,7 @@ impl Book {
             };
         }
         Step {
-            refusal: 8,
+            refusal: Refusal::FAR,
             book: self,
         }
     }
@@ -190,7 +191,7 @@ impl Book {
     pub fn enter(self, series: u64, set: u64, point: u64, x: i64, y: i64, h: i64) -> Step
         ensures { λ r. ⌜ r ≡ stepOf (enter (record { series = series; set = set; point = point }) (record { x = x; y = y; h = h })) self ⌝ }
     {
-        let aim = self.sought(series, set, point, 0, 6);
+        let aim = self.sought(series, set, point, 0, Refusal::FILLED);
         self.placed(aim, x, y, h)
     }
 
@@ -198,7 +199,7 @@ impl Book {
     pub fn correct(self, series: u64, set: u64, point: u64, x: i64, y: i64, h: i64) -> Step
         ensures { λ r. ⌜ r ≡ stepOf (correct (record { series = series; set = set; point = point }) (record { x = x; y = y; h = h })) self ⌝ }
     {
-        let aim = self.sought(series, set, point, 7, 0);
+        let aim = self.sought(series, set, point, Refusal::EMPTY, 0);
         self.placed(aim, x, y, h)
     }
 
@@ -206,7 +207,7 @@ impl Book {
     pub fn withdraw(self, series: u64, set: u64, point: u64) -> Step
         ensures { λ r. ⌜ r ≡ stepOf (withdraw (record { series = series; set = set; point = point })) self ⌝ }
     {
-        let aim = self.sought(series, set, point, 7, 0);
+        let aim = self.sought(series, set, point, Refusal::EMPTY, 0);
         if aim.refusal != 0 {
             return Step {
                 refusal: aim.refusal,
@@ -226,13 +227,13 @@ impl Book {
         if in_form(self) {
             if self.opened == 0 {
                 return Step {
-                    refusal: 5,
+                    refusal: Refusal::CLOSED,
                     book: self,
                 };
             }
             if self.kept == 0 {
                 return Step {
-                    refusal: 9,
+                    refusal: Refusal::NOTHING,
                     book: self,
                 };
             }
@@ -242,7 +243,7 @@ impl Book {
             };
         }
         Step {
-            refusal: 1,
+            refusal: Refusal::REGISTER,
             book: self,
         }
     }
@@ -254,7 +255,7 @@ impl Book {
         if in_form(self) {
             if self.opened == 0 {
                 return Step {
-                    refusal: 5,
+                    refusal: Refusal::CLOSED,
                     book: self,
                 };
             }
@@ -264,7 +265,7 @@ impl Book {
             };
         }
         Step {
-            refusal: 1,
+            refusal: Refusal::REGISTER,
             book: self,
         }
     }
@@ -276,7 +277,7 @@ impl Book {
         if in_form(self) {
             if self.opened != 0 {
                 return Step {
-                    refusal: 3,
+                    refusal: Refusal::OPEN,
                     book: self,
                 };
             }
@@ -287,12 +288,12 @@ impl Book {
                 };
             }
             return Step {
-                refusal: 4,
+                refusal: Refusal::TERMS,
                 book: self,
             };
         }
         Step {
-            refusal: 1,
+            refusal: Refusal::REGISTER,
             book: self,
         }
     }

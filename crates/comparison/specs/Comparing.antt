@@ -25,16 +25,16 @@ comparisonTo axis a b = says (ask (compare 1 2 axis)) (two a b)
 -- ---- in the code's record
 
 -- what an answer says of two books; a comparison answers in no other way
-abbrev pub sameOf : Value → Bool
-sameOf done = false
-sameOf (lengths v) = false
-sameOf (count n) = false
-sameOf (evaluates e) = false
-sameOf (same b) = b
-sameOf (listed ks) = false
+abbrev pub sameIn : Value → Bool
+sameIn done = false
+sameIn (lengths v) = false
+sameIn (count n) = false
+sameIn (evaluates e) = false
+sameIn (same b) = b
+sameIn (listed ks) = false
 
 unfoldable pub comparedOf : Answer → Compared
-comparedOf a = record { refusal = a .refused; series = a .suspect .series; set = a .suspect .set; quantity = a .suspect .quantity; same = sameOf (a .value) }
+comparedOf a = record { refusal = a .refused; series = a .suspect .series; set = a .suspect .set; quantity = a .suspect .quantity; same = sameIn (a .value) }
 
 -- ---- the ways out
 

@@ -8,6 +8,7 @@ ghost use Rattle.image.specs.Ready.{Ready};
 ghost use Rattle.image.specs.Sights.{Formed, sightOf};
 ghost use Rattle.sums.specs.Sums.{Modest};
 ghost use Rattle.comparison.specs.Comparing.{AnAxis, comparisonTo, comparedOf, alikeBy, notCompared, bySums, bothScreened};
+use procedure::Refusal;
 use screen::Found;
 
 // The answer to a comparison.
@@ -75,7 +76,7 @@ fn by_sums(axis: u64, first: u64, second: u64) -> Compared
     ensures { λ r. ⌜ r ≡ bySums axis first second ⌝ }
 {
     if second == 0 {
-        return not_compared(12, 0, 0, 0);
+        return not_compared(Refusal::ZERO, 0, 0, 0);
     }
     let same = same_population(axis, first, second);
     Compared {
@@ -100,11 +101,11 @@ fn both_screened<'a>(
 {
     let one = screen::first_suspect(t1, c1);
     if let Found::At(series, set, quantity) = one {
-        return not_compared(11, series, set, quantity);
+        return not_compared(Refusal::SUSPECT, series, set, quantity);
     }
     let other = screen::first_suspect(t2, c2);
     if let Found::At(series, set, quantity) = other {
-        return not_compared(11, series, set, quantity);
+        return not_compared(Refusal::SUSPECT, series, set, quantity);
     }
     let first = total(t1, c1, axis);
     let second = total(t2, c2, axis);
@@ -123,10 +124,10 @@ pub fn compare<'a>(
     ensures { λ r. ⌜ r ≡ comparedOf (comparisonTo axis (sightOf (now (t1 .entry)) (now (c1 .entry))) (sightOf (now (t2 .entry)) (now (c2 .entry)))) ⌝ }
 {
     if places::any_empty(c1) {
-        return not_compared(10, 0, 0, 0);
+        return not_compared(Refusal::SHORT, 0, 0, 0);
     }
     if places::any_empty(c2) {
-        return not_compared(10, 0, 0, 0);
+        return not_compared(Refusal::SHORT, 0, 0, 0);
     }
     both_screened(t1, c1, t2, c2, axis)
 }

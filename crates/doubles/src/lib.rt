@@ -3,18 +3,18 @@ ghost use mathlib.Core.Path.{_≡_};
 ghost use Rattle.paper.specs.Figures.{doubles};
 ghost use Rattle.paper.specs.Verdicts.{verdict, markOf};
 ghost use Rattle.figures.specs.Judging.{SheetHeld, VerdictHeld, AllHeld};
-ghost use Rattle.doubles.specs.Doubles.{shownFrom, judgedFrom, doubled};
+ghost use Rattle.doubles.specs.Doubles.{doubled};
 use evaluation::Judgement;
-use figures::Judged;
-use figures::Shown;
+use paper::Judged;
 use paper::Mark;
 use paper::Sheet;
+use paper::Shown;
 use paper::Verdict;
 
 // The candidate's sheet, in millimetres.
 pub fn sheet_of(f: Shown) -> Sheet
     requires { ⌜ SheetHeld f ⌝ }
-    ensures { λ r. ⌜ r ≡ doubles (shownFrom f) ⌝ }
+    ensures { λ r. ⌜ r ≡ doubles f ⌝ }
 {
     let x = whole::millimetres(f.sx);
     let y = whole::millimetres(f.sy);
@@ -31,7 +31,7 @@ pub fn sheet_of(f: Shown) -> Sheet
 // A verdict, with both figures in millimetres.
 pub fn verdict(j: Judged) -> Verdict
     requires { ⌜ VerdictHeld j ⌝ }
-    ensures { λ r. ⌜ r ≡ verdict (judgedFrom j) ⌝ }
+    ensures { λ r. ⌜ r ≡ verdict j ⌝ }
 {
     let deviation = whole::millimetres(j.m);
     let bound = whole::millimetres(j.b);

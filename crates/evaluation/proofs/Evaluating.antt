@@ -10,11 +10,10 @@ use Rattle.paper.specs.Screening.{Suspect, firstSuspect}
 use Rattle.paper.specs.Verdicts.{evaluation, bothWithin}
 use Rattle.paper.specs.TurnedAway.{some?, short, suspectOf, lowest, evaluating, questioned, evaluated, onList}
 use Rattle.paper.specs.Answers.{suspectIn, given, beside, says}
+use Rattle.paper.specs.declared.Evaluation.{Evaluation}
 use Rattle.image.specs.Lengths.{termsOf}
 use Rattle.image.specs.Places.{placesOf}
 use Rattle.image.specs.Sights.{sightOf}
-use Rattle.figures.specs.Judging.{evaluationIn}
-use Rattle.figures.specs.declared.Evaluation.{Evaluation}
 use Rattle.screen.specs.Named.{foundOf}
 use Rattle.screen.specs.declared.Found.the-variants.{Nowhere, At}
 use Rattle.screen.proofs.Suspects.{none-is, some-is}
@@ -27,7 +26,7 @@ pub suspect-is : (o : Option Suspect) (t : Terms) (l : Places) (i j k : ℕ) →
 unfolding afterScreen
 suspect-is o t l i j k e = rw (some-is o i j k e)
 
-pub clear-is : (o : Option Suspect) (t : Terms) (l : Places) (e : Evaluation) → Nowhere ≡ foundOf o → e ≡ evaluationIn (evaluation t l)
+pub clear-is : (o : Option Suspect) (t : Terms) (l : Places) (e : Evaluation) → Nowhere ≡ foundOf o → e ≡ evaluation t l
     → _≡_ {A = Judgement} (record { refusal = 0; series = 0; set = 0; quantity = 0; evaluation = e }) (afterScreen o t l)
 unfolding afterScreen
 clear-is o t l e h f = rw (none-is o h, f)

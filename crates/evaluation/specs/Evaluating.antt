@@ -3,12 +3,12 @@ use Prim.Native.Nat.{ℕ}
 use mathlib.Core.Option.{Option, none, some}
 use Rattle.paper.specs.Units.{Terms, Places}
 use Rattle.paper.specs.Screening.{Suspect, firstSuspect}
-use Rattle.paper.specs.Verdicts.{Evaluation, evaluation}
+use Rattle.paper.specs.Verdicts.{evaluation}
 use Rattle.paper.specs.Books.{Sight}
 use Rattle.paper.specs.Calls.{ask, evaluate}
 use Rattle.paper.specs.TurnedAway.{evaluated}
 use Rattle.paper.specs.Answers.{Value, done, lengths, count, evaluates, same, listed, Answer, nowhere, says}
-use Rattle.figures.specs.Judging.{evaluationIn}
+use Rattle.paper.specs.declared.Evaluation.{Evaluation}
 use Rattle.evaluation.specs.declared.Judgement.{Judgement}
 
 -- the paper's answer, the book being number 1
@@ -18,19 +18,19 @@ answerTo s = says (ask (evaluate 1)) (λ k. some s)
 -- ---- in the code's records
 
 -- what an answer says of figures; an evaluation answers in no other way
-abbrev pub evaluationOf : Value → Evaluation
-evaluationOf done = evaluated none
-evaluationOf (lengths v) = evaluated none
-evaluationOf (count n) = evaluated none
-evaluationOf (evaluates e) = e
-evaluationOf (same b) = evaluated none
-evaluationOf (listed ks) = evaluated none
+abbrev pub evaluationIn : Value → Evaluation
+evaluationIn done = evaluated none
+evaluationIn (lengths v) = evaluated none
+evaluationIn (count n) = evaluated none
+evaluationIn (evaluates e) = e
+evaluationIn (same b) = evaluated none
+evaluationIn (listed ks) = evaluated none
 
 abbrev pub judgementBy : ℕ → Suspect → Evaluation → Judgement
-judgementBy n s e = record { refusal = n; series = s .series; set = s .set; quantity = s .quantity; evaluation = evaluationIn e }
+judgementBy n s e = record { refusal = n; series = s .series; set = s .set; quantity = s .quantity; evaluation = e }
 
 unfoldable pub judgementOf : Answer → Judgement
-judgementOf a = judgementBy (a .refused) (a .suspect) (evaluationOf (a .value))
+judgementOf a = judgementBy (a .refused) (a .suspect) (evaluationIn (a .value))
 
 -- ---- the ways out
 

@@ -6,9 +6,10 @@ ghost use Rattle.image.specs.Ready.{Ready};
 ghost use Rattle.image.specs.Sights.{Formed, sightOf};
 ghost use Rattle.figures.specs.Judging.{AllHeld};
 ghost use Rattle.evaluation.specs.Evaluating.{answerTo, judgementOf, notJudged, screenedOf};
-use figures::Evaluation;
-use figures::Judged;
-use figures::Shown;
+use paper::Evaluation;
+use paper::Judged;
+use paper::Shown;
+use procedure::Refusal;
 use screen::Found;
 
 // The answer to an evaluation, in whole numbers.
@@ -55,7 +56,7 @@ fn screened(terms: &[u64; 12], cells: &[u64; 90]) -> Judgement
 {
     let found = screen::first_suspect(terms, cells);
     if let Found::At(series, set, quantity) = found {
-        return not_judged(11, series, set, quantity);
+        return not_judged(Refusal::SUSPECT, series, set, quantity);
     }
     let evaluation = figures::evaluate(terms, cells);
     Judgement {
@@ -73,7 +74,7 @@ pub fn judged(terms: &[u64; 12], cells: &[u64; 90]) -> Judgement
     ensures { λ r. ⌜ (r ≡ judgementOf (answerTo (sightOf (now (terms .entry)) (now (cells .entry))))) × AllHeld (r .evaluation) ⌝ }
 {
     if places::any_empty(cells) {
-        return not_judged(10, 0, 0, 0);
+        return not_judged(Refusal::SHORT, 0, 0, 0);
     }
     screened(terms, cells)
 }

@@ -10,14 +10,14 @@ use Rattle.whole.specs.Greatest.{greatestOf}
 use Rattle.paper.specs.Units.{Terms, Places}
 use Rattle.paper.specs.Figures.{shown, figures}
 use Rattle.paper.specs.Verdicts.{boundXY, boundH, judgedXY, judgedH, evaluation, bothWithin}
+use Rattle.paper.specs.declared.Shown.{Shown}
+use Rattle.paper.specs.declared.Judged.{Judged}
+use Rattle.paper.specs.declared.Evaluation.{Evaluation}
 use Rattle.image.specs.Lengths.{ORIGIN, len}
 use Rattle.image.proofs.Lengths.{len-pos}
 use Rattle.sums.specs.declared.Totals.{Totals}
-use Rattle.figures.specs.declared.Shown.{Shown}
-use Rattle.figures.specs.declared.Judged.{Judged}
-use Rattle.figures.specs.declared.Evaluation.{Evaluation}
 use Rattle.sums.specs.Sums.{totalsOf}
-use Rattle.figures.specs.Judging.{judgedIn, evaluationIn, shownBy, withinBy, judgedBy}
+use Rattle.figures.specs.Judging.{shownBy, withinBy, judgedBy}
 
 pub shown-are : (s : Totals) (x y xy h : ℕ) → x ≡ shown (s .qx) → y ≡ shown (s .qy) → xy ≡ shown (s .p) → h ≡ shown (s .qh)
     → _≡_ {A = Shown} (record { sx = x; sy = y; sxy = xy; sh = h }) (shownBy s)
@@ -42,13 +42,13 @@ within-by-is times most sum w low = rw (len-pos w low)
 
 pub judged-is : (times most divisor chi sum w m b : ℕ) (t : Bool) → ORIGIN ≤ w → t ≡ withinBy times most sum (len w) → m ≡ shown sum
     → b ≡ greatestOf divisor ((w - ORIGIN) * (w - ORIGIN) * chi * 1048576)
-    → _≡_ {A = Judged} (record { within = t; m = m; b = b }) (judgedIn (judgedBy times most divisor chi sum (len w)))
+    → _≡_ {A = Judged} (record { within = t; m = m; b = b }) (judgedBy times most divisor chi sum (len w))
 unfolding judgedBy
 judged-is times most divisor chi sum w m b t low et em eb = rw (et, em, eb, len-pos w low)
 
 pub evaluation-is : (t : Terms) (l : Places) (s : Totals) (f : Shown) (x h : Judged) → s ≡ totalsOf t l → f ≡ shownBy s
-    → x ≡ judgedIn (judgedBy 40 22341 560000 7447 (s .p) (t .sigmaXY)) → h ≡ judgedIn (judgedBy 10 6201 280000 4134 (s .qh) (t .sigmaH))
-    → _≡_ {A = Evaluation} (record { sheet = f; xy = x; h = h }) (evaluationIn (evaluation t l))
+    → x ≡ judgedBy 40 22341 560000 7447 (s .p) (t .sigmaXY) → h ≡ judgedBy 10 6201 280000 4134 (s .qh) (t .sigmaH)
+    → _≡_ {A = Evaluation} (record { sheet = f; xy = x; h = h }) (evaluation t l)
 unfolding totalsOf shownBy judgedBy evaluation figures judgedXY judgedH boundXY boundH
 evaluation-is t l s f x h es ef ex eh = rw (ef, ex, eh, es)
 

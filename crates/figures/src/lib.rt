@@ -7,8 +7,11 @@ ghost use Rattle.image.specs.Lengths.{ORIGIN, len, termsOf};
 ghost use Rattle.image.specs.Places.{placesOf};
 ghost use Rattle.image.specs.Ready.{Ready, Between};
 ghost use Rattle.sums.specs.Sums.{Modest, AllModest};
-ghost use Rattle.figures.specs.Judging.{judgedIn, evaluationIn, shownBy, withinBy, judgedBy, Held, SheetHeld, VerdictHeld, AllHeld};
+ghost use Rattle.figures.specs.Judging.{shownBy, withinBy, judgedBy, Held, SheetHeld, VerdictHeld, AllHeld};
 use image::ORIGIN;
+use paper::Evaluation;
+use paper::Judged;
+use paper::Shown;
 use procedure::Procedure;
 use sums::Totals;
 
@@ -42,14 +45,6 @@ fn figure(sum: u64) -> u64
     whole::greatest(FIGURE, 1048576 * sum)
 }
 
-// s_x, s_y, s_xy and s_h in 1,024ths of a millimetre.
-pub struct Shown {
-    pub sx: u64,
-    pub sy: u64,
-    pub sxy: u64,
-    pub sh: u64,
-}
-
 // The figures of the four sums.
 fn shown_of(s: Totals) -> Shown
     requires { ⌜ AllModest s ⌝ }
@@ -67,13 +62,6 @@ fn shown_of(s: Totals) -> Shown
     }
 }
 
-// Within or beyond; the deviation m and the bound b in 1,024ths of a millimetre.
-pub struct Judged {
-    pub within: bool,
-    pub m: u64,
-    pub b: u64,
-}
-
 // Whether times · sum <= most · sigma². Sigma is a word.
 fn within_by(times: u64, most: u64, sum: u64, sigma: u64) -> bool
     requires { ⌜ (times ≤ 40) × (most ≤ 22341) × Modest sum × Between (ORIGIN + 1) (ORIGIN + 10000) sigma ⌝ }
@@ -88,7 +76,7 @@ fn within_by(times: u64, most: u64, sum: u64, sigma: u64) -> bool
 // The verdict on a sum of which m is shown: within by that test; b is the greatest with b² · divisor <= sigma² · chi · 1,048,576.
 fn judged_by(times: u64, most: u64, divisor: u64, chi: u64, sum: u64, m: u64, sigma: u64) -> Judged
     requires { ⌜ (times ≤ 40) × (most ≤ 22341) × (0 < divisor) × (chi ≤ 7447) × Modest sum × (m ≡ shown sum) × Held m × Between (ORIGIN + 1) (ORIGIN + 10000) sigma ⌝ }
-    ensures { λ r. ⌜ (r ≡ judgedIn (judgedBy times most divisor chi sum (len sigma))) × VerdictHeld r ⌝ }
+    ensures { λ r. ⌜ (r ≡ judgedBy times most divisor chi sum (len sigma)) × VerdictHeld r ⌝ }
 {
     let within = within_by(times, most, sum, sigma);
     let s = sigma - ORIGIN;
@@ -96,17 +84,10 @@ fn judged_by(times: u64, most: u64, divisor: u64, chi: u64, sum: u64, m: u64, si
     Judged { within, m, b }
 }
 
-// The sheet and both verdicts, in whole numbers.
-pub struct Evaluation {
-    pub sheet: Shown,
-    pub xy: Judged,
-    pub h: Judged,
-}
-
 // The evaluation of a full book.
 pub fn evaluate(terms: &[u64; 12], cells: &[u64; 90]) -> Evaluation
     requires { ⌜ Ready (now terms) (now cells) ⌝ }
-    ensures { λ r. ⌜ (r ≡ evaluationIn (evaluation (termsOf (now (terms .entry))) (placesOf (now (cells .entry))))) × AllHeld r ⌝ }
+    ensures { λ r. ⌜ (r ≡ evaluation (termsOf (now (terms .entry))) (placesOf (now (cells .entry)))) × AllHeld r ⌝ }
 {
     let s = sums::sums(terms, cells);
     let sheet = shown_of(s);

@@ -6,6 +6,7 @@ ghost use Rattle.fieldfile.specs.Reader.{readOf};
 ghost use Rattle.filebook.specs.FileBook.{bookRead, filledOf};
 use book::Book;
 use book::Step;
+use procedure::Refusal;
 
 // An open book with these terms and readings, and nothing to take back.
 fn filled(terms: [u64; 12], cells: [u64; 90]) -> Book
@@ -47,9 +48,9 @@ pub fn read_book(file: &[u8]) -> Step
                     book: filled(terms, cells),
                 };
             }
-            return refused(8);
+            return refused(Refusal::FAR);
         }
-        return refused(4);
+        return refused(Refusal::TERMS);
     }
-    refused(14)
+    refused(Refusal::FORM)
 }

@@ -10,18 +10,16 @@ use lib.Dec.{eqb, ltb}
 use borrow.Author.Tests.{ltb-true}
 use Rattle.paper.specs.Units.{Terms, Places, inRange, allNear}
 use Rattle.paper.specs.Screening.{Suspect, sheetOrder, first, firstSuspect, suspicious}
-use Rattle.paper.specs.Verdicts.{Evaluation}
 use Rattle.paper.specs.Books as paper
 use Rattle.paper.specs.Calls.{evaluate}
 use Rattle.paper.specs.TurnedAway.{isClosed, short, suspectOf, found, lowest, evaluating, evaluated, questioned}
 use Rattle.paper.specs.Answers.{evaluates, Answer, nowhere, named, suspectIn, given, beside, answered, says, unless}
 use Rattle.paper.specs.Alone as alone
+use Rattle.paper.specs.declared.Evaluation.{Evaluation}
 use Rattle.paper.proofs.Tests.{and-left, and-right}
 use Rattle.evaluation.specs.Evaluating.{judgementOf}
 use Rattle.evaluation.specs.declared.Judgement.{Judgement}
-use Rattle.figures.specs.declared.Judged as judged
 use Rattle.figures.specs.Judging.{AllHeld}
-use Rattle.verdicts.specs.declared.Axis.{Axis}
 use Rattle.verdicts.specs.Given as given
 use Rattle.verdicts.specs.Text.{axisLine, verdictText}
 use Rattle.report.specs.Text.{refusalNumbers, refusalText, reportText, valueText, reportOf}
@@ -137,16 +135,13 @@ module _ (a : Answer) (p : Prints a) where
 
 -- ---- in the code's record
 
-abbrev axisOf : judged.Judged → Axis
-axisOf j = record { within = j .within; m = j .m; b = j .b }
-
 pub printed-is : (j : Judgement) (a : Answer) → Prints a → j ≡ judgementOf a
-    → reportText (j .refusal) (record { series = j .series; set = j .set; quantity = j .quantity }) (given.judged (axisOf (j .evaluation .xy))) (given.judged (axisOf (j .evaluation .h))) ≡ reportOf a
+    → reportText (j .refusal) (record { series = j .series; set = j .set; quantity = j .quantity }) (j .evaluation .xy) (j .evaluation .h) ≡ reportOf a
 unfolding judgementOf reportOf valueText reportText verdictText axisLine refusalText refusalNumbers
 printed-is j a p e = rw (e, p .value)
 
 pub printed-fits : (j : Judgement) (a : Answer) → Prints a → j ≡ judgementOf a → AllHeld (j .evaluation)
-    → given.Fits (j .refusal) × given.Fits (j .series) × given.Fits (j .set) × given.Fits (j .quantity) × given.FitsAxis (axisOf (j .evaluation .xy)) × given.FitsAxis (axisOf (j .evaluation .h))
+    → given.Fits (j .refusal) × given.Fits (j .series) × given.Fits (j .set) × given.Fits (j .quantity) × given.FitsAxis (j .evaluation .xy) × given.FitsAxis (j .evaluation .h)
 unfolding judgementOf
 printed-fits j a p e h =
     let s = suspect-fits a p in (

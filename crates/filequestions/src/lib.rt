@@ -10,7 +10,6 @@ ghost use Rattle.report.specs.Given.{held};
 use doubles::Evaluated;
 use evaluation::Judgement;
 use report::Printed;
-use verdicts::Axis;
 
 // The evaluation of a file's book, in whole numbers: after the file's own refusals SHORT, SUSPECT.
 pub fn judge_file(file: &[u8]) -> Judgement
@@ -38,17 +37,7 @@ pub fn report_file(file: &[u8]) -> Printed
 {
     let j = judge_file(file);
     let e = j.evaluation;
-    let position = e.xy;
-    let height = e.h;
-    let xy = Axis {
-        within: position.within,
-        m: position.m,
-        b: position.b,
-    };
-    let h = Axis {
-        within: height.within,
-        m: height.m,
-        b: height.b,
-    };
+    let xy = e.xy;
+    let h = e.h;
     report::report(j.refusal, j.series, j.set, j.quantity, xy, h)
 }

@@ -1,30 +1,31 @@
 -- What calls do to the bytes of a register in form is what the paper says of the register; so its claim is one on bytes.
 -- Assumes nothing.
-use Prim.Native.Nat.{ℕ, zero, suc, _≤_}
+use Prim.Native.Nat.{ℕ, zero, suc, _+_, _≤_}
 use native.Mathlib.Omega.{arith}
 use mathlib.Core.Path.{_≡_, refl, sym, ap, _∙_}
 use mathlib.Core.Logic.{_↔_, _≢_}
-use mathlib.Core.Bool.{Bool, true, false, cond, _||_}
+use mathlib.Core.Bool.{Bool, true, false, cond, _&&_, _||_}
 use mathlib.Core.Option.{Option, none, some, Option·map}
 use mathlib.Core.List.{List, [], _∷_}
 use lib.ListN.{length, getD}
 use lib.Dec.{eqb}
-use borrow.Author.Tests.{eq-eqb, ne-eqb, eqb-true, eqb-false, le-leb}
+use borrow.Author.Tests.{eq-eqb, ne-eqb, eqb-true, eqb-false, le-ltb, le-leb}
 use Rattle.paper.specs.Procedure.{BOOKS, KEPT}
-use Rattle.paper.specs.Units.{zeros, Place, inSheet, number, isEmpty, Spot, standing}
+use Rattle.paper.specs.Units.{zeros, oneTo, Place, inSheet, number, isEmpty, Spot, standing}
 use Rattle.paper.specs.Books.{Book, Register, book, Sight, sight, sights}
 use Rattle.paper.specs.Calls.{Act, takeBack, read, changes, residual, evaluate, compare, passList, Call, fresh, on, ask}
-use Rattle.paper.specs.TurnedAway.{empty, lowest, refusal, evaluating, questioned}
-use Rattle.paper.specs.Answers.{lengths, Answer, nowhere, suspectIn, countOf, given, beside, says, unless, after, run}
+use Rattle.paper.specs.TurnedAway.{empty, lowest, refusal, evaluating, onList, has, passing, questioned}
+use Rattle.paper.specs.Answers.{lengths, numbersIn, Answer, nowhere, suspectIn, countOf, given, beside, says, unless, after, run}
 use Rattle.paper.specs.Form.{formedO, InForm}
 use Rattle.paper.specs.History.{leaves, Story, told, history, asksOf, names, about}
 use Rattle.paper.specs.Claim.{Holds}
 use Rattle.paper.proofs.Form.{partsO}
 use Rattle.paper.proofs.History.{formed-after, formed-run}
+use Rattle.paper.proofs.PassList.{Rises, on-the-list, list-rises}
 use Rattle.lent.specs.Image.{LENGTH, image, inForm, stateOf}
 use Rattle.lent.specs.Calls.{Out, out, callOn, called}
 use Rattle.lent.proofs.Image.{form-length, image-state, state-out}
-use Rattle.history.specs.Runs.{answerOn, ran, seenIn, Only}
+use Rattle.history.specs.Runs.{answerOn, ran, seenIn, listedIn, Only}
 use Rattle.history.specs.Claim.{readAs, HoldsOn}
 
 -- ---- one call, and calls, on the image of a register in form
@@ -123,6 +124,19 @@ unfolding sight told
 few-is none h f e = let z : _≡_ {A = ℕ} 0 1 = cc in absurd (omega arith)
 few-is (some b) h f e = let n : length (b .kept) ≡ h .count = ap countOf e in omega (arith, partsO (some b) f .few)
 
+-- ---- which books are on the pass list
+
+-- of numbers that rise from m to n there are no more than n - m
+rises-few : (m n : ℕ) (l : List ℕ) → Rises m l n → m + length l ≤ n
+rises-few m n [] h = omega (arith, h)
+rises-few m n (k ∷ l) h = omega (arith, h .0, rises-few k n l (h .1))
+
+-- so with room for sixteen the list is never refused, and its numbers are those that demand 2 gives
+list-is : (room k : ℕ) (s : ℕ → Option Sight) → BOOKS ≤ room → has k (numbersIn (says (ask (passList room)) s .value)) ≡ oneTo BOOKS k && onList (s k)
+unfolding says questioned lowest given
+list-is room k s h =
+    rw (le-ltb room (length (passing s)) (omega (arith, h, rises-few 0 BOOKS (passing s) (list-rises s)))) (on-the-list s k)
+
 -- ---- the claim on the bytes of a register in form, from the paper's on the register
 
 module _ (r : Register) (start : ℕ → Option Story) (v : InForm r) (claim : Holds r start) where
@@ -142,6 +156,10 @@ module _ (r : Register) (start : ℕ → Option Story) (v : InForm r) (claim : H
 
   story-is : (cs : List Call) (k : ℕ) (h : Story) → history k (start k) cs ≡ some h → sights (run r cs) k ≡ some (told h)
   story-is cs k h e = claim .seen cs k ∙ ap (Option·map told) e
+
+  listed-is : (cs : List Call) (k : ℕ) → listedIn (ran (image r) cs) k ≡ oneTo BOOKS k && onList (sights (run r cs) k)
+  unfolding listedIn
+  listed-is cs k = ap (λ (a : Answer). has k (numbersIn (a .value))) (answer-is cs _) ∙ list-is _ k (sights (run r cs)) (omega arith)
 
   backs-is : (cs : List Call) (k : ℕ) (h : Story) → 1 ≤ k → k ≤ BOOKS → history k (start k) cs ≡ some h → (answerOn (on k takeBack) (ran (image r) cs) .refused ≡ 0) ↔ (h .count ≢ 0)
   backs-is cs k h lo hi e = rw (answer-is cs (on k takeBack)) (claim .backs cs k h lo hi e)
@@ -169,7 +187,9 @@ module _ (r : Register) (start : ℕ → Option Story) (v : InForm r) (claim : H
     reads = λ cs k p h lo hi i e. answer-is cs (ask (read k p)) ∙ read-is k p h (sights (run r cs)) lo hi i (story-is cs k h e);
     backs = backs-is;
     few = few-on;
+    lists = λ cs k. listed-is cs k ∙ ap (λ (o : Option Sight). oneTo BOOKS k && onList o) (claim .seen cs k);
     alone = λ cs k. seen-is (about k cs) k ∙ claim .alone cs k ∙ sym (seen-is cs k);
     answers-alone = λ cs k c o. answer-is (about k cs) c ∙ same-answer c k o _ _ (claim .alone cs k) ∙ sym (answer-is cs c);
+    lists-alone = λ cs k. listed-is (about k cs) k ∙ ap (λ (o : Option Sight). oneTo BOOKS k && onList o) (claim .alone cs k) ∙ sym (listed-is cs k);
     refused = refused-is;
   }

@@ -5,12 +5,14 @@
 use Prim.Native.Nat.{ℕ}
 use mathlib.Core.Path.{_≡_}
 use mathlib.Core.Logic.{_≢_}
-use mathlib.Core.Bool.{false}
+use mathlib.Core.Bool.{Bool, false}
 use mathlib.Core.Option.{Option, none, some}
 use mathlib.Core.List.{List, [], _∷_}
+use Rattle.paper.specs.Procedure.{BOOKS}
 use Rattle.paper.specs.Books.{Register, Sight, sights}
-use Rattle.paper.specs.Calls.{Call}
-use Rattle.paper.specs.Answers.{Answer}
+use Rattle.paper.specs.Calls.{passList, Call, ask}
+use Rattle.paper.specs.TurnedAway.{has}
+use Rattle.paper.specs.Answers.{numbersIn, Answer}
 use Rattle.paper.specs.History.{names}
 use Rattle.lent.specs.Image.{stateOf}
 use Rattle.lent.specs.Calls.{called}
@@ -31,6 +33,10 @@ seenOf (some r) k = sights r k
 
 unfoldable pub seenIn : List ℕ → ℕ → Option Sight
 seenIn bs k = seenOf (stateOf bs) k
+
+-- is book k on the pass list: one of the numbers that these bytes answer with, where there is room for all sixteen
+unfoldable pub listedIn : List ℕ → ℕ → Bool
+listedIn bs k = has k (numbersIn (answerOn (ask (passList BOOKS)) bs .value))
 
 -- a call that names no book but k: an act on it, or a question of it alone (fresh and the pass list bear on every book)
 abbrev pub Only : ℕ → Call → Type 0

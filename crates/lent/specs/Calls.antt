@@ -9,6 +9,7 @@ use lib.ListN.{length}
 use lib.Dec.{eqb}
 use Rattle.paper.specs.Books as paper
 use Rattle.paper.specs.Calls.{Call, fresh, on, ask}
+use Rattle.paper.specs.Refusals.{REGISTER}
 use Rattle.paper.specs.Answers.{done, Answer, nowhere, answered, says, after}
 use Rattle.lent.specs.Image.{LENGTH, image, stateOf}
 
@@ -20,11 +21,11 @@ pub record Out : Type 0 where
 abbrev pub out : Answer → List ℕ → Out
 out a bs = record { answer = a; bytes = bs }
 
--- beside 1 (REGISTER)
+-- beside REGISTER
 unfoldable pub shut : Call → Answer
-shut fresh = record { refused = 1; suspect = nowhere; value = done }
-shut (on k a) = record { refused = 1; suspect = nowhere; value = done }
-shut (ask q) = answered 1 q (λ k. none)
+shut fresh = record { refused = REGISTER; suspect = nowhere; value = done }
+shut (on k a) = record { refused = REGISTER; suspect = nowhere; value = done }
+shut (ask q) = answered REGISTER q (λ k. none)
 
 unfoldable pub callOn : Call → Option paper.Register → List ℕ → Out
 callOn c none bs = out (shut c) bs

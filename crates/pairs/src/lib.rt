@@ -6,6 +6,7 @@ ghost use Rattle.comparison.specs.Comparing.{comparedOf};
 ghost use Rattle.pairs.specs.Asked.{refusedOf};
 use book::Book;
 use comparison::Compared;
+use procedure::Refusal;
 
 // REGISTER, PLACE or CLOSED of a comparison, each looked for in both books; 0 where none applies.
 fn refused(first: Book, second: Book, axis: u64) -> u64
@@ -14,22 +15,22 @@ fn refused(first: Book, second: Book, axis: u64) -> u64
     if book::in_form(first) {
         if book::in_form(second) {
             if axis < 1 {
-                return 2;
+                return Refusal::PLACE;
             }
             if axis > 2 {
-                return 2;
+                return Refusal::PLACE;
             }
             if first.opened == 0 {
-                return 5;
+                return Refusal::CLOSED;
             }
             if second.opened == 0 {
-                return 5;
+                return Refusal::CLOSED;
             }
             return 0;
         }
-        return 1;
+        return Refusal::REGISTER;
     }
-    1
+    Refusal::REGISTER
 }
 
 // The comparison of two books, the first against the second: axis 1 is xy, 2 is h.

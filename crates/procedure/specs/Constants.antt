@@ -1,6 +1,8 @@
--- The numbers of the procedure, as `constants` gives them.
+-- The numbers of the procedure as `constants` gives them, and of the refusals as `refusals` does.
 use Rattle.paper.specs.Procedure.{SERIES, SETS, POINTS, ROUNDS, PLACES, DEGREES-H, DEGREES-XY, BOOKS, KEPT}
+use Rattle.paper.specs.Refusals.{REGISTER, PLACE, OPEN, TERMS, CLOSED, FILLED, EMPTY, FAR, NOTHING, SHORT, SUSPECT, ZERO, ROOM, FORM}
 use Rattle.procedure.specs.declared.Numbers.{Numbers}
+use Rattle.procedure.specs.declared.Refusals.{Refusals}
 
 abbrev pub numbers : Numbers
 numbers = record {
@@ -13,4 +15,22 @@ numbers = record {
   «degrees_xy» = DEGREES-XY;
   books = BOOKS;
   kept = KEPT;
+}
+
+abbrev pub refusals : Refusals
+refusals = record {
+  register = REGISTER;
+  place = PLACE;
+  «open» = OPEN;
+  terms = TERMS;
+  closed = CLOSED;
+  filled = FILLED;
+  empty = EMPTY;
+  far = FAR;
+  nothing = NOTHING;
+  short = SHORT;
+  suspect = SUSPECT;
+  zero = ZERO;
+  room = ROOM;
+  form = FORM;
 }

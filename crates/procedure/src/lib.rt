@@ -1,6 +1,6 @@
-// The numbers of the procedure, as constants of the code.
+// The numbers of the procedure and of the refusals, as constants of the code.
 ghost use mathlib.Core.Path.{_≡_};
-ghost use Rattle.procedure.specs.Constants.{numbers};
+ghost use Rattle.procedure.specs.Constants.{numbers, refusals};
 
 pub struct Procedure;
 
@@ -50,5 +50,77 @@ pub fn constants() -> Numbers
         degrees_xy: Procedure::DEGREES_XY,
         books: Procedure::BOOKS,
         kept: Procedure::KEPT,
+    }
+}
+
+// The table of refusals by its names.
+pub struct Refusal;
+
+impl Refusal {
+    pub const REGISTER: u64 = 1;
+
+    pub const PLACE: u64 = 2;
+
+    pub const OPEN: u64 = 3;
+
+    pub const TERMS: u64 = 4;
+
+    pub const CLOSED: u64 = 5;
+
+    pub const FILLED: u64 = 6;
+
+    pub const EMPTY: u64 = 7;
+
+    pub const FAR: u64 = 8;
+
+    pub const NOTHING: u64 = 9;
+
+    pub const SHORT: u64 = 10;
+
+    pub const SUSPECT: u64 = 11;
+
+    pub const ZERO: u64 = 12;
+
+    pub const ROOM: u64 = 13;
+
+    pub const FORM: u64 = 14;
+}
+
+pub struct Refusals {
+    pub register: u64,
+    pub place: u64,
+    pub open: u64,
+    pub terms: u64,
+    pub closed: u64,
+    pub filled: u64,
+    pub empty: u64,
+    pub far: u64,
+    pub nothing: u64,
+    pub short: u64,
+    pub suspect: u64,
+    pub zero: u64,
+    pub room: u64,
+    pub form: u64,
+}
+
+// The constants of `Refusal` are the paper's.
+pub fn refusal_constants() -> Refusals
+    ensures { λ r. ⌜ r ≡ refusals ⌝ }
+{
+    Refusals {
+        register: Refusal::REGISTER,
+        place: Refusal::PLACE,
+        open: Refusal::OPEN,
+        terms: Refusal::TERMS,
+        closed: Refusal::CLOSED,
+        filled: Refusal::FILLED,
+        empty: Refusal::EMPTY,
+        far: Refusal::FAR,
+        nothing: Refusal::NOTHING,
+        short: Refusal::SHORT,
+        suspect: Refusal::SUSPECT,
+        zero: Refusal::ZERO,
+        room: Refusal::ROOM,
+        form: Refusal::FORM,
     }
 }

@@ -17,6 +17,7 @@ ghost use Rattle.doubles.specs.Doubles.{doubled};
 use book::Book;
 use doubles::Evaluated;
 use evaluation::Judgement;
+use procedure::Refusal;
 use readings::Lengths;
 
 // 15·r along x, y and h at a place of a full book, counted from 0 in sheet order.
@@ -48,7 +49,7 @@ pub fn residual(b: Book, series: u64, set: u64, point: u64) -> Lengths
     let terms = b.terms;
     let cells = b.cells;
     if places::any_empty(&cells) {
-        return readings::no_lengths(10);
+        return readings::no_lengths(Refusal::SHORT);
     }
     residuals(&terms, &cells, place)
 }
@@ -61,11 +62,11 @@ pub fn judge(b: Book) -> Judgement
     let cells = b.cells;
     if book::in_form(b) {
         if b.opened == 0 {
-            return evaluation::not_judged(5, 0, 0, 0);
+            return evaluation::not_judged(Refusal::CLOSED, 0, 0, 0);
         }
         return evaluation::judged(&terms, &cells);
     }
-    evaluation::not_judged(1, 0, 0, 0)
+    evaluation::not_judged(Refusal::REGISTER, 0, 0, 0)
 }
 
 // The evaluation of a book, in millimetres.

@@ -6,6 +6,7 @@ ghost use Rattle.paper.specs.Alone.{askedAlone};
 ghost use Rattle.book.specs.Meaning.{seen};
 ghost use Rattle.readings.specs.Answers.{lengthsBy, lengthsOf, countBy, countOf};
 use book::Book;
+use procedure::Refusal;
 
 #[repr(C)]
 pub struct Lengths {
@@ -44,7 +45,7 @@ pub fn no_count(refusal: u64) -> Count
 pub fn read(b: Book, series: u64, set: u64, point: u64) -> Lengths
     ensures { λ r. ⌜ r ≡ lengthsOf (askedAlone (λ k. read k (record { series = series; set = set; point = point })) (seen b)) ⌝ }
 {
-    let aim = b.sought(series, set, point, 7, 0);
+    let aim = b.sought(series, set, point, Refusal::EMPTY, 0);
     if aim.refusal != 0 {
         return no_lengths(aim.refusal);
     }
@@ -64,12 +65,12 @@ pub fn changes(b: Book) -> Count
 {
     if book::in_form(b) {
         if b.opened == 0 {
-            return no_count(5);
+            return no_count(Refusal::CLOSED);
         }
         return Count {
             refusal: 0,
             count: b.kept,
         };
     }
-    no_count(1)
+    no_count(Refusal::REGISTER)
 }

@@ -7,6 +7,7 @@ ghost use Rattle.lent.specs.Image.{LENGTH};
 ghost use Rattle.lent.specs.Calls.{called, Calls};
 ghost use Rattle.register.specs.Answers.{checked, listAfter};
 use lent::Layout;
+use procedure::Refusal;
 use readings::Count;
 
 // The length that a register has, in bytes.
@@ -17,7 +18,7 @@ pub extern "C" fn rtk_length() -> u64
     Layout::REGISTER as u64
 }
 
-// The form check apart, which every other call makes first: 0, or 1 REGISTER.
+// The form check apart, which every call on books makes first: 0, or REGISTER.
 #[no_mangle]
 pub extern "C" fn rtk_check(register: &[u8]) -> u64
     ensures { λ r. ⌜ r ≡ checked (now (register .entry)) ⌝ }
@@ -25,7 +26,7 @@ pub extern "C" fn rtk_check(register: &[u8]) -> u64
     if lent::formed(register) {
         return 0;
     }
-    1
+    Refusal::REGISTER
 }
 
 // Make a fresh register over any bytes of the right length: every book is closed.
@@ -34,7 +35,7 @@ pub extern "C" fn rtk_fresh(register: &mut [u8]) -> u64
     ensures { λ r. ⌜ Calls fresh (now (register .entry)) r (now (register .exit)) ⌝ }
 {
     if register.len() != Layout::REGISTER {
-        return 1;
+        return Refusal::REGISTER;
     }
     listing::clear(register);
     0
@@ -50,7 +51,7 @@ pub extern "C" fn rtk_pass_list(register: &[u8], list: &mut [u8]) -> Count
         let n = roll.count;
         let numbers = roll.numbers;
         if list.len() < n {
-            return readings::no_count(13);
+            return readings::no_count(Refusal::ROOM);
         }
         listing::write(&numbers[..n], list);
         return Count {
@@ -58,5 +59,5 @@ pub extern "C" fn rtk_pass_list(register: &[u8], list: &mut [u8]) -> Count
             count: n as u64,
         };
     }
-    readings::no_count(1)
+    readings::no_count(Refusal::REGISTER)
 }

@@ -12,7 +12,7 @@ use lib.Seq.{take-append-seam}
 use lib.IntN.{pos}
 use Rattle.words.specs.Paste.{pasted}
 use Rattle.paper.specs.Screening.{Suspect}
-use Rattle.paper.specs.Verdicts.{Judged}
+use Rattle.paper.specs.declared.Judged.{Judged}
 use Rattle.decimals.specs.Ascii.{ascii}
 use Rattle.decimals.specs.Numbers.{line}
 use Rattle.printing.specs.Given.{Put}

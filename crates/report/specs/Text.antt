@@ -5,8 +5,8 @@ use mathlib.Core.List.{List, [], _∷_, _++_}
 use lib.Dec.{eqb}
 use lib.IntN.{ℤ, pos}
 use Rattle.paper.specs.Screening.{Suspect}
-use Rattle.paper.specs.Verdicts.{Judged}
 use Rattle.paper.specs.Answers.{Value, done, lengths, count, evaluates, same, listed, Answer}
+use Rattle.paper.specs.declared.Judged.{Judged}
 use Rattle.decimals.specs.Ascii.{ascii}
 use Rattle.decimals.specs.Numbers.{line}
 use Rattle.verdicts.specs.Text.{verdictText}

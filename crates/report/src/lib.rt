@@ -3,11 +3,12 @@ ghost use mathlib.Core.Path.{_≡_};
 ghost use Prim.Native.Nat.{_≤_};
 ghost use lib.ListN.{length};
 ghost use Rattle.printing.specs.Given.{Put};
-ghost use Rattle.verdicts.specs.Given.{judged, Fits, FitsAxis};
+ghost use Rattle.verdicts.specs.Given.{Fits, FitsAxis};
 ghost use Rattle.report.specs.Text.{refusalText, reportText};
 ghost use Rattle.report.specs.Given.{suspect, held};
 use image::ORIGIN;
-use verdicts::Axis;
+use paper::Judged;
+use procedure::Refusal;
 
 // The first `len` bytes are the text.
 pub struct Printed {
@@ -21,7 +22,7 @@ fn put_refusal(out: &mut [u8], refusal: u64, series: u64, set: u64, quantity: u6
     ensures { λ r. ⌜ Put (now (out .entry)) 0 (refusalText refusal (suspect series set quantity)) (now (out .exit)) r ⌝ }
 {
     let i = printing::put_fixed(out, 0, b"REFUSED ");
-    if refusal == 11 {
+    if refusal == Refusal::SUSPECT {
         let t = [
             refusal + ORIGIN,
             series + ORIGIN,
@@ -35,9 +36,9 @@ fn put_refusal(out: &mut [u8], refusal: u64, series: u64, set: u64, quantity: u6
 }
 
 // The report of an evaluation's answer.
-pub fn report(refusal: u64, series: u64, set: u64, quantity: u64, xy: Axis, h: Axis) -> Printed
+pub fn report(refusal: u64, series: u64, set: u64, quantity: u64, xy: Judged, h: Judged) -> Printed
     requires { ⌜ Fits refusal × Fits series × Fits set × Fits quantity × FitsAxis xy × FitsAxis h ⌝ }
-    ensures { λ r. ⌜ r ≡ held (reportText refusal (suspect series set quantity) (judged xy) (judged h)) ⌝ }
+    ensures { λ r. ⌜ r ≡ held (reportText refusal (suspect series set quantity) xy h) ⌝ }
 {
     let mut bytes = [0u8; 80];
     if refusal == 0 {

@@ -10,6 +10,7 @@ use book::Book;
 use book::Step;
 use lent::Layout;
 use procedure::Procedure;
+use procedure::Refusal;
 
 // Whether a number is that of a book.
 pub fn is_book(book: u64) -> bool
@@ -64,13 +65,13 @@ pub fn found(register: &[u8], book: u64) -> Book
 pub fn turned_away(book: u64, met: u64) -> u64
     ensures { λ r. ⌜ r ≡ turnedAway book met ⌝ }
 {
-    if met == 1 {
-        return 1;
+    if met == Refusal::REGISTER {
+        return Refusal::REGISTER;
     }
     if is_book(book) {
         return met;
     }
-    2
+    Refusal::PLACE
 }
 
 // The next book put back under its number; beside a refusal nothing is written.

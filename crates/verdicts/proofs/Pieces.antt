@@ -7,7 +7,7 @@ use mathlib.Core.List.{List, [], _∷_, _++_, map}
 use native.Mathlib.Omega.{arith}
 use lib.ListN.{length, length-append}
 use lib.IntN.{pos}
-use Rattle.paper.specs.Verdicts.{Judged}
+use Rattle.paper.specs.declared.Judged.{Judged}
 use Rattle.image.specs.Lengths.{ORIGIN, len}
 use Rattle.image.proofs.Lengths.{len-up}
 use Rattle.decimals.specs.Ascii.{ascii}

@@ -6,15 +6,9 @@ ghost use lib.IntN.{pos};
 ghost use Rattle.decimals.specs.Numbers.{line};
 ghost use Rattle.printing.specs.Given.{Put};
 ghost use Rattle.verdicts.specs.Text.{axisLine, verdictText};
-ghost use Rattle.verdicts.specs.Given.{judged, Fits, FitsAxis};
+ghost use Rattle.verdicts.specs.Given.{Fits, FitsAxis};
 use image::ORIGIN;
-
-// A verdict in whole numbers: s is m / 1,024 mm, its bound b / 1,024 mm.
-pub struct Axis {
-    pub within: bool,
-    pub m: u64,
-    pub b: u64,
-}
+use paper::Judged;
 
 // A line of m and b.
 fn put_figures(out: &mut [u8], at: usize, m: u64, b: u64) -> usize
@@ -26,9 +20,9 @@ fn put_figures(out: &mut [u8], at: usize, m: u64, b: u64) -> usize
 }
 
 // The line of an axis.
-fn put_axis(out: &mut [u8], at: usize, name: &[u8], axis: Axis) -> usize
-    requires { ⌜ FitsAxis axis × (at + length (axisLine (now name) (judged axis)) ≤ length (now out)) ⌝ }
-    ensures { λ r. ⌜ Put (now (out .entry)) at (axisLine (now (name .entry)) (judged axis)) (now (out .exit)) r ⌝ }
+fn put_axis(out: &mut [u8], at: usize, name: &[u8], axis: Judged) -> usize
+    requires { ⌜ FitsAxis axis × (at + length (axisLine (now name) axis) ≤ length (now out)) ⌝ }
+    ensures { λ r. ⌜ Put (now (out .entry)) at (axisLine (now (name .entry)) axis) (now (out .exit)) r ⌝ }
 {
     let i = printing::put_fixed(out, at, name);
     let j = printing::put_either(out, i, axis.within, b"WITHIN ", b"BEYOND ");
@@ -36,9 +30,9 @@ fn put_axis(out: &mut [u8], at: usize, name: &[u8], axis: Axis) -> usize
 }
 
 // Both lines, and PASS or FAIL.
-pub fn put_verdicts(out: &mut [u8], xy: Axis, h: Axis) -> usize
-    requires { ⌜ FitsAxis xy × FitsAxis h × (length (verdictText (judged xy) (judged h)) ≤ length (now out)) ⌝ }
-    ensures { λ r. ⌜ Put (now (out .entry)) 0 (verdictText (judged xy) (judged h)) (now (out .exit)) r ⌝ }
+pub fn put_verdicts(out: &mut [u8], xy: Judged, h: Judged) -> usize
+    requires { ⌜ FitsAxis xy × FitsAxis h × (length (verdictText xy h) ≤ length (now out)) ⌝ }
+    ensures { λ r. ⌜ Put (now (out .entry)) 0 (verdictText xy h) (now (out .exit)) r ⌝ }
 {
     let i = put_axis(out, 0, b"XY ", xy);
     let j = put_axis(out, i, b"H ", h);

@@ -1,4 +1,6 @@
 use mathlib.Core.Path.{ap, _∙_}
+use Rattle.evaluation.specs.Evaluating.{judgementOf}
+use Rattle.doubles.specs.Doubles.{doubled}
 use Rattle.asks.specs.Answers.{plainOf, evaluationOf}
 use borrow.Author.Needs.{needs}
 use Rattle.asks.proofs.rtk_evaluate_file.Statement.{statement}
@@ -11,7 +13,7 @@ plain-requires : tie.Need-plain-requires
 plain-requires c κs = search needs
 
 returns : tie.Need-returns
-unfolding evaluationOf
+unfolding evaluationOf plainOf doubled judgementOf
 returns c =
     c .plain .ensures ∙ ap plainOf (c .before .evaluate-file .ensures)
 

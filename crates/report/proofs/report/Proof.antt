@@ -1,7 +1,6 @@
 -- `report::report`: by the refusal, into a row of zeros.
 -- Assumes nothing.
 use borrow.Author.Needs.{needs}
-use Rattle.verdicts.specs.Given.{judged}
 use Rattle.verdicts.proofs.Pieces.{long-verdicts}
 use Rattle.report.specs.Given.{suspect}
 use Rattle.report.proofs.Pieces.{text-accepted, text-refused, long-refusal, held-is}
@@ -15,12 +14,12 @@ put-verdicts-requires : tie.Need-put-verdicts-requires
 put-verdicts-requires c κs =
     let a = c .before .before .args in
     let p = c .before .before .pre in
-    (p .4, p .5, long-verdicts (judged (a .xy)) (judged (a .h)) (p .4 .0) (p .4 .1) (p .5 .0) (p .5 .1))
+    (p .4, p .5, long-verdicts (a .xy) (a .h) (p .4 .0) (p .4 .1) (p .5 .0) (p .5 .1))
 
 returns : tie.Need-returns
 returns c =
     let a = c .before .before .before .before .args in
-    held-is _ (text-accepted (a .refusal) (suspect (a .series) (a .set) (a .quantity)) (judged (a .xy)) (judged (a .h)) (c .before .before .before .if1 .taken)) (c .before .put-verdicts .ensures)
+    held-is _ (text-accepted (a .refusal) (suspect (a .series) (a .set) (a .quantity)) (a .xy) (a .h) (c .before .before .before .if1 .taken)) (c .before .put-verdicts .ensures)
 
 slice-aggregate-put-refusal : tie.Need-slice-aggregate-put-refusal
 slice-aggregate-put-refusal c = search needs
@@ -34,7 +33,7 @@ put-refusal-requires c κs =
 returns-2 : tie.Need-returns-2
 returns-2 c =
     let a = c .before .before .before .before .args in
-    held-is _ (text-refused (a .refusal) (suspect (a .series) (a .set) (a .quantity)) (judged (a .xy)) (judged (a .h)) (c .before .before .before .if1 .left)) (c .before .put-refusal .ensures)
+    held-is _ (text-refused (a .refusal) (suspect (a .series) (a .set) (a .quantity)) (a .xy) (a .h) (c .before .before .before .if1 .left)) (c .before .put-refusal .ensures)
 
 pub report-spec : {M : Type 1} → statement M
 report-spec =

@@ -6,19 +6,19 @@ use mathlib.Core.Path.{_∙_}
 use mathlib.Core.Bool.{cond}
 use mathlib.Core.List.{List, [], _∷_}
 use lib.IntN.{pos}
+use Rattle.paper.specs.declared.Judged.{Judged}
 use Rattle.decimals.specs.Ascii.{ascii}
 use Rattle.decimals.specs.Numbers.{line}
 use Rattle.verdicts.specs.Text.{WITHIN, BEYOND, axisLine}
-use Rattle.verdicts.specs.declared.Axis.{Axis}
 use Rattle.verdicts.proofs.Pieces.{first-fits, second-fits, two-fit, third-fits, all-three}
 use Rattle.verdicts.proofs.put_axis.Statement.{statement}
 use Rattle.verdicts.proofs.put_axis.Tie as tie
 
-abbrev verdict : Axis → List ℕ
-verdict a = cond (a .within) WITHIN BEYOND
+abbrev verdict : Judged → List ℕ
+verdict j = cond (j .within) WITHIN BEYOND
 
-abbrev figures : Axis → List ℕ
-figures a = line (pos (a .m) ∷ pos (a .b) ∷ [])
+abbrev figures : Judged → List ℕ
+figures j = line (pos (j .m) ∷ pos (j .b) ∷ [])
 
 put-fixed-requires : tie.Need-put-fixed-requires
 unfolding axisLine ascii

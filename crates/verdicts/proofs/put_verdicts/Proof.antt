@@ -5,22 +5,21 @@ use borrow.Author.Needs.{needs}
 use mathlib.Core.Path.{_∙_}
 use mathlib.Core.Bool.{cond, _&&_}
 use mathlib.Core.List.{List}
+use Rattle.paper.specs.declared.Judged.{Judged}
 use Rattle.decimals.specs.Ascii.{ascii}
 use Rattle.verdicts.specs.Text.{XY, H, PASS, FAIL, axisLine, verdictText}
-use Rattle.verdicts.specs.Given.{judged}
-use Rattle.verdicts.specs.declared.Axis.{Axis}
 use Rattle.verdicts.proofs.Pieces.{first-fits, second-fits, two-fit, third-fits, all-three, starts}
 use Rattle.verdicts.proofs.put_verdicts.Statement.{statement}
 use Rattle.verdicts.proofs.put_verdicts.Tie as tie
 
-abbrev lineXY : Axis → List ℕ
-lineXY a = axisLine XY (judged a)
+abbrev lineXY : Judged → List ℕ
+lineXY j = axisLine XY j
 
-abbrev lineH : Axis → List ℕ
-lineH a = axisLine H (judged a)
+abbrev lineH : Judged → List ℕ
+lineH j = axisLine H j
 
-abbrev last : Axis → Axis → List ℕ
-last a b = cond (a .within && b .within) PASS FAIL
+abbrev last : Judged → Judged → List ℕ
+last xy h = cond (xy .within && h .within) PASS FAIL
 
 slice-aggregate-put-axis : tie.Need-slice-aggregate-put-axis
 slice-aggregate-put-axis c = search needs
