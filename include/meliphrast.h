@@ -3,7 +3,14 @@
  *
  * Lengths are whole numbers of 0.1 mm ("units"), figures are millimetres. A slice is a pointer
  * and a length; it is lent for the one call, at any address, and may hold anything. Every call
- * looks at the register's form first. A refused call changes no byte of register or list.
+ * on a register looks at its form first, but for rtk_fresh, which looks at its length alone. A
+ * refused call changes no byte of register or list.
+ *
+ * The caller sees to it that the bytes of a slice can be read for all of its length, and written
+ * where the pointer is not to const; that no pointer is NULL, not even one with a length of 0;
+ * that register and list have no byte in common; and that during a call nobody else writes to its
+ * slices, nor reads those that it may write. The library keeps nothing between calls: on
+ * different registers they can run side by side, and so can calls that only read the same one.
  *
  * A call gives RTK_ACCEPTED or the number of its refusal. In a record every field beside a
  * refusal is 0, but for series, set and quantity beside RTK_SUSPECT.

@@ -19,19 +19,20 @@ use Rattle.paper.specs.Answers.{unless, says, after}
 use Rattle.paper.specs.Alone.{refusedAlone, next}
 use Rattle.paper.specs.Form.{formedO, InForm}
 use Rattle.paper.proofs.Tests.{among}
-use Rattle.paper.proofs.History.{formed-next}
+use Rattle.paper.proofs.Stays.{formed-next}
 use Rattle.words.specs.Paste.{pasted}
 use Rattle.book.specs.declared.Book.{Book}
 use Rattle.book.specs.declared.Step.{Step}
 use Rattle.book.specs.Meaning.{bookOf}
 use Rattle.book.specs.Steps.{step, stepOf}
+use Rattle.book.proofs.Meaning.{seen-image}
 use Rattle.stored.specs.Image.{BOOK, bookBytes}
 use Rattle.lent.specs.Image.{LENGTH, image, meantFrom}
 use Rattle.lent.specs.Calls.{shut, callOn, called, Calls}
 use Rattle.shelf.specs.Steps.{foundOf, turnedAway, placedAt}
 use Rattle.stored.proofs.Image.{Bytes}
 use Rattle.lent.proofs.Image.{form-length, formed-in, image-set, state-in, state-out, form-image-is, form-state}
-use Rattle.shelf.proofs.Ways.{Found, found, elsewhere, Way, within, without, found-way, found-seen, found-meant, closed-seen, away-among}
+use Rattle.shelf.proofs.Ways.{Found, found, elsewhere, Way, within, without, found-way, found-seen, found-meant, away-among}
 
 -- outside the sixteen it is 2 (PLACE), but for 1 (REGISTER)
 away-outside : (k n : ℕ) → oneTo BOOKS k ≡ false → (n ≡ 1 → ⊥) → turnedAway k n ≡ 2
@@ -81,7 +82,7 @@ module _ (bs : List ℕ) (k : ℕ) (a : Act) (y : Bytes bs) where
             rw e (ap (λ (l : List ℕ). pasted l (j * BOOK) (bookBytes p)) (sym (form-image-is bs y (f .formed)))
             ∙ image-set r j p (omega (arith, h .1, v .sixteen)) (formed-in r v) g)
 
-    pub act-done : (s : Step) (bs′ : List ℕ) → s ≡ stepOf a b → bs′ ≡ unless (s .refusal) (placedAt bs k (s .book)) bs → Calls (on k a) bs (s .refusal) bs′
+    act-done : (s : Step) (bs′ : List ℕ) → s ≡ stepOf a b → bs′ ≡ unless (s .refusal) (placedAt bs k (s .book)) bs → Calls (on k a) bs (s .refusal) bs′
     unfolding called callOn says after
     act-done s bs′ es eb =
         rw (state-in bs (f .formed), refusal-is)
@@ -105,7 +106,7 @@ module _ (bs : List ℕ) (k : ℕ) (a : Act) (y : Bytes bs) where
           let d = act-done b f s bs′ es (eb ∙ ap (λ (n : ℕ). unless n (placedAt bs k (s .book)) bs) z) in
           (z ∙ d .0, d .1)
       go (within u (elsewhere v w)) =
-          let n : turnedAway k (s .refusal) ≡ 2 = away-outside k (s .refusal) v (λ m. closed-meets a (sym (ap (λ (q : Step). q .refusal) es ∙ rw (w, closed-seen)) ∙ m)) in
+          let n : turnedAway k (s .refusal) ≡ 2 = away-outside k (s .refusal) v (λ m. closed-meets a (sym (ap (λ (q : Step). q .refusal) es ∙ rw (w, seen-image none refl)) ∙ m)) in
           (n ∙ rw (state-in bs u, v), eb ∙ rw n (rw (state-in bs u, v) (sym (form-image-is bs y u))))
       go (without u v) =
           let n : turnedAway k (s .refusal) ≡ 1 = rw (es, v) in

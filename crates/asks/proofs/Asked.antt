@@ -20,11 +20,12 @@ use Rattle.readings.specs.declared.Count.{Count}
 use Rattle.doubles.specs.declared.Evaluated.{Evaluated}
 use Rattle.evaluation.specs.Evaluating.{judgementOf}
 use Rattle.doubles.specs.Doubles.{doubled}
+use Rattle.book.proofs.Meaning.{seen-image}
 use Rattle.lent.specs.Image.{meantFrom}
 use Rattle.lent.specs.Calls.{shut, callOn, called}
 use Rattle.shelf.specs.Steps.{foundOf, turnedAway}
 use Rattle.lent.proofs.Image.{state-in, state-out}
-use Rattle.shelf.proofs.Ways.{found, elsewhere, Way, within, without, found-way, found-seen, found-meant, closed-seen, away-among}
+use Rattle.shelf.proofs.Ways.{found, elsewhere, Way, within, without, found-way, found-seen, found-meant, away-among}
 use Rattle.asks.specs.Answers.{plainOf, evaluationOf}
 
 -- an answer of the book of that number, by what the book met
@@ -49,7 +50,7 @@ asked bs k q o b e = go (found-way bs k b e)
     go : Way bs k b → turned k (askedAlone q (seen b)) ≡ called (ask (q k)) bs .answer
     go (within u (found f)) =
         turned-among k (askedAlone q (seen b)) (f .among) ∙ rw (found-seen bs k b f, state-in bs u, o .alone k (paper.sights (meantFrom BOOKS bs)) (f .among), found-meant bs k b f)
-    go (within u (elsewhere v w)) = rw (w, closed-seen, state-in bs u) (o .outside k (paper.sights (meantFrom BOOKS bs)) v)
+    go (within u (elsewhere v w)) = rw (w, seen-image none refl, state-in bs u) (o .outside k (paper.sights (meantFrom BOOKS bs)) v)
     go (without u v) = rw (v, state-out bs u) (o .not-formed k)
 
 -- ---- each question of one book

@@ -16,11 +16,12 @@ use Rattle.book.specs.declared.Book.{Book}
 use Rattle.book.specs.Meaning.{meant, seen}
 use Rattle.comparison.specs.declared.Compared.{Compared}
 use Rattle.comparison.specs.Comparing.{comparedOf}
+use Rattle.book.proofs.Meaning.{seen-image}
 use Rattle.lent.specs.Image.{meantFrom}
 use Rattle.lent.specs.Calls.{shut, callOn, called}
 use Rattle.shelf.specs.Steps.{pickedOf, foundOf, turnedAway}
 use Rattle.lent.proofs.Image.{state-in, state-out}
-use Rattle.shelf.proofs.Ways.{Within, found, elsewhere, Way, within, without, within-seen, picked-way, found-way, found-seen, found-meant, closed-seen}
+use Rattle.shelf.proofs.Ways.{Within, found, elsewhere, Way, within, without, within-seen, picked-way, found-way, found-seen, found-meant}
 use Rattle.asks.specs.Answers.{plainlyOf, comparisonOf}
 use Rattle.asks.proofs.Asked.{turned, turned-among, away}
 
@@ -55,21 +56,21 @@ module _ (bs : List ℕ) (j k axis : ℕ) where
   or-closed none = refl
   or-closed (some o) = refl
 
-  pub compared : (a b : Book) → a ≡ foundOf bs j → b ≡ pickedOf bs k → turned k (turned j (comparedAlone axis (seen a) (seen b))) ≡ called (ask (compare j k axis)) bs .answer
+  compared : (a b : Book) → a ≡ foundOf bs j → b ≡ pickedOf bs k → turned k (turned j (comparedAlone axis (seen a) (seen b))) ≡ called (ask (compare j k axis)) bs .answer
   unfolding called callOn shut comparedAlone paper.sights turned turnedAway beside suspectIn
   compared a b ea eb = go (found-way bs j a ea)
     where
       go : Way bs j a → turned k (turned j (comparedAlone axis (seen a) (seen b))) ≡ called (ask (compare j k axis)) bs .answer
       go (without u v) = rw (v, state-out bs u)
       go (within u (elsewhere e w)) =
-          rw (w, closed-seen, within-seen bs k b (picked-way bs k b eb u), state-in bs u)
+          rw (w, seen-image none refl, within-seen bs k b (picked-way bs k b eb u), state-in bs u)
           (ap (turned k) (one-closed j none (meant b) e refl) ∙ place-stays ∙ no-book (rw e))
       go (within u (found f)) = beside-it (picked-way bs k b eb u)
         where
           beside-it : Within bs k b → turned k (turned j (comparedAlone axis (seen a) (seen b))) ≡ called (ask (compare j k axis)) bs .answer
           beside-it (elsewhere e w) =
               ap (turned k) (turned-among j (comparedAlone axis (seen a) (seen b)) (f .among))
-              ∙ rw (w, closed-seen, found-seen bs j a f, state-in bs u) (one-closed k (meant a) none e (or-closed (meant a)) ∙ no-book (rw (f .among, e)))
+              ∙ rw (w, seen-image none refl, found-seen bs j a f, state-in bs u) (one-closed k (meant a) none e (or-closed (meant a)) ∙ no-book (rw (f .among, e)))
           beside-it (found g) =
               ap (turned k) (turned-among j (comparedAlone axis (seen a) (seen b)) (f .among))
               ∙ turned-among k (comparedAlone axis (seen a) (seen b)) (g .among)

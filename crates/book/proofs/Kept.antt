@@ -9,7 +9,7 @@ use Rattle.paper.specs.Calls.{Act, effect, affected}
 use Rattle.paper.specs.TurnedAway.{lowest, rules}
 use Rattle.paper.specs.Answers.{unless}
 use Rattle.paper.specs.Alone.{refusedAlone, next}
-use Rattle.paper.proofs.History.{formed-next}
+use Rattle.paper.proofs.Stays.{formed-next}
 use Rattle.book.specs.declared.Book.{Book}
 use Rattle.book.specs.Meaning.{bookOf, meant, bookForm}
 use Rattle.book.specs.Steps.{stepOf}

@@ -1,3 +1,7 @@
 pub mod Meaning
 pub mod Steps
+pub mod Sought
+pub mod Changed
+pub mod Back
+pub mod Opened
 pub mod Kept

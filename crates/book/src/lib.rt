@@ -9,6 +9,7 @@ ghost use Rattle.paper.specs.Calls.{begin, strike, enter, correct, withdraw, ta
 ghost use Rattle.image.specs.Lengths.{wordOr, termsOf, termsGiven};
 ghost use Rattle.book.specs.Meaning.{bookOf, bookForm};
 ghost use Rattle.book.specs.Steps.{stepOf, aimOf, soughtOf, changedOf, undoneOf, placedOf, begunOf};
+use image::Layout;
 use procedure::Procedure;
 use procedure::Refusal;
 
@@ -16,10 +17,10 @@ use procedure::Refusal;
 // each, the place and what stood there.
 pub struct Book {
     pub opened: u64,
-    pub terms: [u64; 12],
-    pub cells: [u64; 90],
+    pub terms: [u64; Layout::TERMS],
+    pub cells: [u64; Layout::CELLS],
     pub kept: u64,
-    pub changes: [u64; 128],
+    pub changes: [u64; Layout::CHANGES],
 }
 
 // The next book beside a refusal number; beside a refusal the book is the one handed in.
@@ -32,9 +33,9 @@ pub struct Step {
 pub fn closed() -> Book
     ensures { λ r. ⌜ r ≡ bookOf none ⌝ }
 {
-    let terms = [0u64; 12];
-    let cells = [0u64; 90];
-    let changes = [0u64; 128];
+    let terms = [0u64; Layout::TERMS];
+    let cells = [0u64; Layout::CELLS];
+    let changes = [0u64; Layout::CHANGES];
     Book {
         opened: 0,
         terms,
@@ -170,11 +171,11 @@ impl Book {
 }
 
 // An open book with these terms, no reading, and nothing to take back.
-pub fn begun(terms: [u64; 12]) -> Book
+pub fn begun(terms: [u64; Layout::TERMS]) -> Book
     ensures { λ r. ⌜ r ≡ begunOf terms ⌝ }
 {
-    let cells = [0u64; 90];
-    let changes = [0u64; 128];
+    let cells = [0u64; Layout::CELLS];
+    let changes = [0u64; Layout::CHANGES];
     Book {
         opened: 1,
         terms,
@@ -271,7 +272,7 @@ impl Book {
     }
 
     // Open a closed book with terms, in words.
-    fn begin_words(self, terms: [u64; 12]) -> Step
+    fn begin_words(self, terms: [u64; Layout::TERMS]) -> Step
         ensures { λ r. ⌜ r ≡ stepOf (begin (termsOf terms)) self ⌝ }
     {
         if in_form(self) {

@@ -4,6 +4,7 @@ ghost use Prim.Native.Nat.{_+_, _*_, _<_};
 ghost use lib.ListN.{length, getD};
 ghost use Rattle.paper.specs.Procedure.{PLACES};
 ghost use Rattle.changes.specs.Kept.{pushed, popped, more};
+use image::Layout;
 use procedure::Procedure;
 
 // The words of from, in order.
@@ -19,10 +20,10 @@ fn copy(from: &[u64], out: &mut [u64])
 }
 
 // The kept changes with one more, the latest first; the oldest falls away.
-fn push(old: [u64; 128], place: u64, x: u64, y: u64, h: u64) -> [u64; 128]
+fn push(old: [u64; Layout::CHANGES], place: u64, x: u64, y: u64, h: u64) -> [u64; Layout::CHANGES]
     ensures { λ r. ⌜ r ≡ pushed old place x y h ⌝ }
 {
-    let mut out = [0u64; 128];
+    let mut out = [0u64; Layout::CHANGES];
     out[0] = place;
     out[1] = x;
     out[2] = y;
@@ -32,7 +33,11 @@ fn push(old: [u64; 128], place: u64, x: u64, y: u64, h: u64) -> [u64; 128]
 }
 
 // The kept changes with one more, of a place and what stands there.
-pub fn keep(old: [u64; 128], cells: &[u64; 90], place: usize) -> [u64; 128]
+pub fn keep(
+    old: [u64; Layout::CHANGES],
+    cells: &[u64; Layout::CELLS],
+    place: usize,
+) -> [u64; Layout::CHANGES]
     requires { ⌜ place < PLACES ⌝ }
     ensures { λ r. ⌜ r ≡ pushed old place (getD (now (cells .entry)) (place * 3) 0) (getD (now (cells .entry)) (place * 3 + 1) 0) (getD (now (cells .entry)) (place * 3 + 2) 0) ⌝ }
 {
@@ -41,10 +46,10 @@ pub fn keep(old: [u64; 128], cells: &[u64; 90], place: usize) -> [u64; 128]
 }
 
 // The kept changes without the latest.
-pub fn pop(old: [u64; 128]) -> [u64; 128]
+pub fn pop(old: [u64; Layout::CHANGES]) -> [u64; Layout::CHANGES]
     ensures { λ r. ⌜ r ≡ popped old ⌝ }
 {
-    let mut out = [0u64; 128];
+    let mut out = [0u64; Layout::CHANGES];
     copy(&old[4..128], &mut out[0..124]);
     out
 }

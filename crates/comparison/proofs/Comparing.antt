@@ -1,12 +1,12 @@
 -- The ways out of a comparison.
 -- Assumes nothing.
-use Prim.Native.Nat.{ℕ, _*_, _≤_, _<_}
+use Prim.Native.Nat.{ℕ, _≤_}
 use mathlib.Core.Path.{_≡_, refl}
 use mathlib.Core.Bool.{Bool, true, false}
 use mathlib.Core.Option.{Option, none, some}
 use mathlib.Core.List.{List}
-use lib.Dec.{leb, eqb}
-use borrow.Author.Tests.{le-leb, lt-leb, eq-eqb, ne-eqb}
+use lib.Dec.{eqb}
+use borrow.Author.Tests.{le-leb, eq-eqb, ne-eqb}
 use Rattle.paper.specs.Units.{Terms, Places, isEmpty}
 use Rattle.paper.specs.Screening.{Suspect, firstSuspect}
 use Rattle.paper.specs.Verdicts.{sum, samePopulation}
@@ -32,13 +32,6 @@ total-xy axis t l s e h = rw (eq-eqb axis 1 h, e)
 pub total-h : (axis : ℕ) (t : Terms) (l : Places) (s : Totals) → s ≡ totalsOf t l → (axis ≡ 1 → ⊥) → s .qh ≡ sum axis t l
 unfolding sum totalsOf
 total-h axis t l s e h = rw (ne-eqb axis 1 h, e)
-
-module _ (low high first second : ℕ) where
-  pub alike-is : low * second ≤ 100 * first → leb (100 * first) (high * second) ≡ alikeBy low high first second
-  alike-is h = rw (le-leb (low * second) (100 * first) h)
-
-  pub unlike-is : 100 * first < low * second → false ≡ alikeBy low high first second
-  unlike-is h = rw (lt-leb (low * second) (100 * first) h)
 
 module _ (axis first second : ℕ) where
   pub same-xy : axis ≡ 1 → alikeBy 59 170 first second ≡ samePopulation axis first second

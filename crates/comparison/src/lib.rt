@@ -8,6 +8,7 @@ ghost use Rattle.image.specs.Ready.{Ready};
 ghost use Rattle.image.specs.Sights.{Formed, sightOf};
 ghost use Rattle.sums.specs.Sums.{Modest};
 ghost use Rattle.comparison.specs.Comparing.{AnAxis, comparisonTo, comparedOf, alikeBy, notCompared, bySums, bothScreened};
+use image::Layout;
 use procedure::Refusal;
 use screen::Found;
 
@@ -34,7 +35,7 @@ pub fn not_compared(refusal: u64, series: u64, set: u64, quantity: u64) -> Compa
 }
 
 // P for xy, Qh for h.
-fn total(terms: &[u64; 12], cells: &[u64; 90], axis: u64) -> u64
+fn total(terms: &[u64; Layout::TERMS], cells: &[u64; Layout::CELLS], axis: u64) -> u64
     requires { ⌜ Ready (now terms) (now cells) ⌝ }
     ensures { λ r. ⌜ (r ≡ sum axis (termsOf (now (terms .entry))) (placesOf (now (cells .entry)))) × Modest r ⌝ }
 {
@@ -53,10 +54,7 @@ fn alike(low: u64, high: u64, first: u64, second: u64) -> bool
     let middle = 100 * first;
     let least = low * second;
     let most = high * second;
-    if least <= middle {
-        return middle <= most;
-    }
-    false
+    (least <= middle) & (middle <= most)
 }
 
 // Whether two sums are of the same population.
@@ -90,10 +88,10 @@ fn by_sums(axis: u64, first: u64, second: u64) -> Compared
 
 // The comparison of two full books: 11 at the first suspect set, the first book first, or by their sums.
 fn both_screened<'a>(
-    t1: &'a [u64; 12],
-    c1: &'a [u64; 90],
-    t2: &'a [u64; 12],
-    c2: &'a [u64; 90],
+    t1: &'a [u64; Layout::TERMS],
+    c1: &'a [u64; Layout::CELLS],
+    t2: &'a [u64; Layout::TERMS],
+    c2: &'a [u64; Layout::CELLS],
     axis: u64,
 ) -> Compared
     requires { ⌜ Ready (now t1) (now c1) × Ready (now t2) (now c2) ⌝ }
@@ -114,10 +112,10 @@ fn both_screened<'a>(
 
 // The comparison of two books: 10, 11, 12 or whether they are of the same population.
 pub fn compare<'a>(
-    t1: &'a [u64; 12],
-    c1: &'a [u64; 90],
-    t2: &'a [u64; 12],
-    c2: &'a [u64; 90],
+    t1: &'a [u64; Layout::TERMS],
+    c1: &'a [u64; Layout::CELLS],
+    t2: &'a [u64; Layout::TERMS],
+    c2: &'a [u64; Layout::CELLS],
     axis: u64,
 ) -> Compared
     requires { ⌜ AnAxis axis × Formed (now t1) (now c1) × Formed (now t2) (now c2) ⌝ }

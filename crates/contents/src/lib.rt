@@ -4,6 +4,7 @@ ghost use lib.ListN.{length};
 ghost use Rattle.fieldfile.specs.Reader.{whole, readOf};
 ghost use Rattle.contents.specs.Given.{Formed, contentsOf};
 use decimals::Read;
+use image::Layout;
 use table::Counts;
 
 // The most bytes of a file.
@@ -12,8 +13,8 @@ pub const LONGEST: usize = 4096;
 // The words of a file's terms and readings; of a file that is not of the form, zeros.
 pub struct Contents {
     pub formed: bool,
-    pub terms: [u64; 12],
-    pub cells: [u64; 90],
+    pub terms: [u64; Layout::TERMS],
+    pub cells: [u64; Layout::CELLS],
 }
 
 // A file of any length: yes, with the words of its terms and readings; or no.
@@ -37,8 +38,8 @@ fn formed(s: &[u8], terms: &mut [u64], cells: &mut [u64]) -> bool
 pub fn read(file: &[u8]) -> Contents
     ensures { λ r. ⌜ r ≡ contentsOf (readOf (now (file .entry))) ⌝ }
 {
-    let mut terms = [0u64; 12];
-    let mut cells = [0u64; 90];
+    let mut terms = [0u64; Layout::TERMS];
+    let mut cells = [0u64; Layout::CELLS];
     if LONGEST < file.len() {
         return Contents {
             formed: false,
@@ -55,8 +56,8 @@ pub fn read(file: &[u8]) -> Contents
     } else {
         Contents {
             formed: false,
-            terms: [0u64; 12],
-            cells: [0u64; 90],
+            terms: [0u64; Layout::TERMS],
+            cells: [0u64; Layout::CELLS],
         }
     }
 }

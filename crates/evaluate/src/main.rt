@@ -1,10 +1,14 @@
 // Evaluates one field file: reads standard input to its end, and writes what document 01 says to standard output.
-ghost use Prim.Native.Nat.{_≤_, max};
+ghost use Prim.Native.Nat.{_+_, _≤_, max};
 ghost use mathlib.Core.Path.{_≡_};
 ghost use lib.ListN.{length};
+ghost use Rattle.fieldfile.specs.Form.{LONGEST};
 ghost use Rattle.evaluate.specs.Input.{Ends};
 use libc::STDIN_FILENO;
 use libc::STDOUT_FILENO;
+
+// One byte more than a file may have.
+const ROOM: usize = contents::LONGEST + 1;
 
 // How many bytes a read brought, or that it failed.
 enum Got {
@@ -26,9 +30,9 @@ fn read_once(buffer: &mut [u8], from: usize) -> Got
 
 // Where the next bytes go: behind those that came, or over them where the buffer is full. A file so long is refused whatever it holds.
 fn next_place(len: usize) -> usize
-    ensures { λ r. ⌜ r ≤ 4096 ⌝ }
+    ensures { λ r. ⌜ r ≤ LONGEST ⌝ }
 {
-    if len <= 4096 { len } else { 0 }
+    if len < ROOM { len } else { 0 }
 }
 
 // How many bytes are held, where len were and the latest end there: a buffer that was full stays full.
@@ -41,8 +45,8 @@ fn held(len: usize, end: usize) -> usize
 // Reads to the end of the input, however long. The buffer has room for one byte more than a file may have, so a longer input is held as
 // one that is too long. A proved loop has to end: it counts its turns down from a number that no run uses up.
 fn fill(buffer: &mut [u8]) -> Got
-    requires { ⌜ length (now buffer) ≡ 4097 ⌝ }
-    ensures { λ r. ⌜ Ends r 0 4097 ⌝ }
+    requires { ⌜ length (now buffer) ≡ LONGEST + 1 ⌝ }
+    ensures { λ r. ⌜ Ends r 0 (LONGEST + 1) ⌝ }
 {
     let mut len: usize = 0;
     let mut turns = u64::MAX;
@@ -72,7 +76,7 @@ fn print(file: &[u8]) {
 }
 
 fn main() {
-    let mut buffer = [0u8; 4097];
+    let mut buffer = [0u8; ROOM];
     let Got::Bytes(n) = fill(&mut buffer) else {
         os::fail(b"standard input");
         return;

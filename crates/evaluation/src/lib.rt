@@ -6,6 +6,7 @@ ghost use Rattle.image.specs.Ready.{Ready};
 ghost use Rattle.image.specs.Sights.{Formed, sightOf};
 ghost use Rattle.figures.specs.Judging.{AllHeld};
 ghost use Rattle.evaluation.specs.Evaluating.{answerTo, judgementOf, notJudged, screenedOf};
+use image::Layout;
 use paper::Evaluation;
 use paper::Judged;
 use paper::Shown;
@@ -50,7 +51,7 @@ pub fn not_judged(refusal: u64, series: u64, set: u64, quantity: u64) -> Judgeme
 }
 
 // The evaluation of a full book: 11 at the first suspect set, or the figures.
-fn screened(terms: &[u64; 12], cells: &[u64; 90]) -> Judgement
+fn screened(terms: &[u64; Layout::TERMS], cells: &[u64; Layout::CELLS]) -> Judgement
     requires { ⌜ Ready (now terms) (now cells) ⌝ }
     ensures { λ r. ⌜ (r ≡ screenedOf (sightOf (now (terms .entry)) (now (cells .entry)))) × AllHeld (r .evaluation) ⌝ }
 {
@@ -69,7 +70,7 @@ fn screened(terms: &[u64; 12], cells: &[u64; 90]) -> Judgement
 }
 
 // The evaluation of a book: 10, 11 or the figures.
-pub fn judged(terms: &[u64; 12], cells: &[u64; 90]) -> Judgement
+pub fn judged(terms: &[u64; Layout::TERMS], cells: &[u64; Layout::CELLS]) -> Judgement
     requires { ⌜ Formed (now terms) (now cells) ⌝ }
     ensures { λ r. ⌜ (r ≡ judgementOf (answerTo (sightOf (now (terms .entry)) (now (cells .entry))))) × AllHeld (r .evaluation) ⌝ }
 {
@@ -80,7 +81,7 @@ pub fn judged(terms: &[u64; 12], cells: &[u64; 90]) -> Judgement
 }
 
 // Whether a book is on the pass list: it evaluates, and both are within.
-pub fn passes(terms: &[u64; 12], cells: &[u64; 90]) -> bool
+pub fn passes(terms: &[u64; Layout::TERMS], cells: &[u64; Layout::CELLS]) -> bool
     requires { ⌜ Formed (now terms) (now cells) ⌝ }
     ensures { λ r. ⌜ r ≡ onList (some (sightOf (now (terms .entry)) (now (cells .entry)))) ⌝ }
 {

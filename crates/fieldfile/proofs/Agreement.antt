@@ -109,10 +109,6 @@ text-fits t l v =
           long-body 0 zs (omega arith) (h .2),
         ))
 
--- what is written is read again
-pub read-text : (t : Terms) (l : Places) → Printable t l → readOf (text t l) ≡ some (t, l)
-read-text t l v = read-back (text t l) t l (record { is-text = refl; printable = v; fits = omega (arith, text-fits t l v) })
-
 -- ---- the words of what was read mean it
 
 module _ (t : Terms) (l : Places) (v : Printable t l) where

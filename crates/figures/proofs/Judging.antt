@@ -4,7 +4,7 @@ use Prim.Native.Nat.{ℕ, _+_, _-_, _*_, _≤_}
 use native.Mathlib.Omega.{arith}
 use native.Mathlib.Nat.{mul-le-mul}
 use mathlib.Core.Path.{_≡_}
-use mathlib.Core.Bool.{Bool, true, false, _&&_}
+use mathlib.Core.Bool.{Bool, _&&_}
 use lib.Dec.{leb}
 use Rattle.whole.specs.Greatest.{greatestOf}
 use Rattle.paper.specs.Units.{Terms, Places}
@@ -53,13 +53,7 @@ unfolding totalsOf shownBy judgedBy evaluation figures judgedXY judgedH boundXY 
 evaluation-is t l s f x h es ef ex eh = rw (ef, ex, eh, es)
 
 -- both within, by the sums
-module _ (t : Terms) (l : Places) (s : Totals) (x h : Bool) (es : s ≡ totalsOf t l) (ex : x ≡ withinBy 40 22341 (s .p) (t .sigmaXY)) (eh : h ≡ withinBy 10 6201 (s .qh) (t .sigmaH)) where
-  both-is : x && h ≡ bothWithin (evaluation t l)
-  unfolding totalsOf bothWithin evaluation judgedXY judgedH
-  both-is = rw (ex, eh, es)
-
-  pub by-h : x ≡ true → h ≡ bothWithin (evaluation t l)
-  by-h e = rw e at both-is
-
-  pub xy-beyond : x ≡ false → false ≡ bothWithin (evaluation t l)
-  xy-beyond e = rw e at both-is
+pub both-is : (t : Terms) (l : Places) (s : Totals) (x h : Bool) → s ≡ totalsOf t l → x ≡ withinBy 40 22341 (s .p) (t .sigmaXY) → h ≡ withinBy 10 6201 (s .qh) (t .sigmaH)
+    → x && h ≡ bothWithin (evaluation t l)
+unfolding totalsOf bothWithin evaluation judgedXY judgedH
+both-is t l s x h es ex eh = rw (ex, eh, es)

@@ -8,6 +8,7 @@ ghost use Rattle.image.specs.Places.{placesOf};
 ghost use Rattle.image.specs.Ready.{Ready, Between};
 ghost use Rattle.sums.specs.Sums.{Modest, AllModest};
 ghost use Rattle.figures.specs.Judging.{shownBy, withinBy, judgedBy, Held, SheetHeld, VerdictHeld, AllHeld};
+use image::Layout;
 use image::ORIGIN;
 use paper::Evaluation;
 use paper::Judged;
@@ -85,7 +86,7 @@ fn judged_by(times: u64, most: u64, divisor: u64, chi: u64, sum: u64, m: u64, si
 }
 
 // The evaluation of a full book.
-pub fn evaluate(terms: &[u64; 12], cells: &[u64; 90]) -> Evaluation
+pub fn evaluate(terms: &[u64; Layout::TERMS], cells: &[u64; Layout::CELLS]) -> Evaluation
     requires { ⌜ Ready (now terms) (now cells) ⌝ }
     ensures { λ r. ⌜ (r ≡ evaluation (termsOf (now (terms .entry))) (placesOf (now (cells .entry)))) × AllHeld r ⌝ }
 {
@@ -113,15 +114,11 @@ pub fn evaluate(terms: &[u64; 12], cells: &[u64; 90]) -> Evaluation
 }
 
 // Whether both are within, by the sums alone: no figure and no bound is worked out.
-pub fn both_within(terms: &[u64; 12], cells: &[u64; 90]) -> bool
+pub fn both_within(terms: &[u64; Layout::TERMS], cells: &[u64; Layout::CELLS]) -> bool
     requires { ⌜ Ready (now terms) (now cells) ⌝ }
     ensures { λ r. ⌜ r ≡ bothWithin (evaluation (termsOf (now (terms .entry))) (placesOf (now (cells .entry)))) ⌝ }
 {
     let s = sums::sums(terms, cells);
-    let xy = within_by(TIMES_XY, MOST_XY, s.p, terms[SIGMA_XY]);
-    let h = within_by(TIMES_H, MOST_H, s.qh, terms[SIGMA_H]);
-    if xy {
-        return h;
-    }
-    false
+    within_by(TIMES_XY, MOST_XY, s.p, terms[SIGMA_XY])
+        & within_by(TIMES_H, MOST_H, s.qh, terms[SIGMA_H])
 }

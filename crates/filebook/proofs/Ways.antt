@@ -33,10 +33,10 @@ module _ (t : Terms) (l : Places) (p : Printable t l) where
   abbrev cells : List ℕ
   cells = cellsOf l
 
-  pub range-read : (r : Bool) → inRange (termsOf terms) ≡ r → inRange t ≡ r
+  range-read : (r : Bool) → inRange (termsOf terms) ≡ r → inRange t ≡ r
   range-read r e = sym (ap inRange (terms-back t l p)) ∙ e
 
-  pub near-read : (r : Bool) → allNear (termsOf terms) 0 (placesOf cells) ≡ r → allNear t 0 l ≡ r
+  near-read : (r : Bool) → allNear (termsOf terms) 0 (placesOf cells) ≡ r → allNear t 0 l ≡ r
   near-read r e = sym (rw (terms-back t l p, places-back t l p)) ∙ e
 
   -- ---- TERMS, FAR, or the book
@@ -49,11 +49,11 @@ module _ (t : Terms) (l : Places) (p : Printable t l) where
   unfolding alone.refusedFile lowest
   read-far e f = rw (e, f)
 
-  pub read-good : inRange t ≡ true → allNear t 0 l ≡ true → alone.refusedFile (some (t, l)) ≡ 0
+  read-good : inRange t ≡ true → allNear t 0 l ≡ true → alone.refusedFile (some (t, l)) ≡ 0
   unfolding alone.refusedFile lowest
   read-good e f = rw (e, f)
 
-  pub filled-words : inRange t ≡ true → allNear t 0 l ≡ true → filledOf terms cells ≡ bookOf (alone.bookOf (some (t, l)))
+  filled-words : inRange t ≡ true → allNear t 0 l ≡ true → filledOf terms cells ≡ bookOf (alone.bookOf (some (t, l)))
   unfolding filledOf bookOf alone.bookOf changesOf
   filled-words e f = rw (read-good e f)
 

@@ -6,13 +6,14 @@ ghost use Rattle.fieldfile.specs.Reader.{readOf};
 ghost use Rattle.filebook.specs.FileBook.{bookRead, filledOf};
 use book::Book;
 use book::Step;
+use image::Layout;
 use procedure::Refusal;
 
 // An open book with these terms and readings, and nothing to take back.
-fn filled(terms: [u64; 12], cells: [u64; 90]) -> Book
+fn filled(terms: [u64; Layout::TERMS], cells: [u64; Layout::CELLS]) -> Book
     ensures { λ r. ⌜ r ≡ filledOf terms cells ⌝ }
 {
-    let changes = [0u64; 128];
+    let changes = [0u64; Layout::CHANGES];
     Book {
         opened: 1,
         terms,

@@ -115,7 +115,7 @@ file-prints c = go (alone.refusedFile c) (file-small c)
 -- ---- its text
 
 module _ (a : Answer) (p : Prints a) where
-  pub refusal-fits : given.Fits (a .refused)
+  refusal-fits : given.Fits (a .refused)
   refusal-fits = omega (arith, ltb-true (a .refused) 15 (p .refused))
 
   three : (small (a .suspect .series) ≡ true) × (small (a .suspect .set) ≡ true) × (small (a .suspect .quantity) ≡ true)
@@ -126,7 +126,7 @@ module _ (a : Answer) (p : Prints a) where
       let e = and-left (x && y) z (p .suspect) in
       (and-left x y e, and-right x y e, and-right (x && y) z (p .suspect))
 
-  pub suspect-fits : given.Fits (a .suspect .series) × given.Fits (a .suspect .set) × given.Fits (a .suspect .quantity)
+  suspect-fits : given.Fits (a .suspect .series) × given.Fits (a .suspect .set) × given.Fits (a .suspect .quantity)
   suspect-fits = (
     omega (arith, ltb-true (a .suspect .series) 15 (three .0)),
     omega (arith, ltb-true (a .suspect .set) 15 (three .1)),

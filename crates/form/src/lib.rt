@@ -4,6 +4,7 @@ ghost use Prim.Native.Nat.{_≤_};
 ghost use lib.ListN.{length, drop};
 ghost use Rattle.image.specs.Changes.{zeros};
 ghost use Rattle.form.specs.Whole.{blank, sound, wordsForm};
+use image::Layout;
 use procedure::Procedure;
 
 // Words that are not used.
@@ -22,14 +23,24 @@ fn zero_from(l: &[u64], from: usize) -> bool
 }
 
 // The words of a closed book.
-fn blank(terms: &[u64; 12], cells: &[u64; 90], kept: u64, changes: &[u64; 128]) -> bool
+fn blank(
+    terms: &[u64; Layout::TERMS],
+    cells: &[u64; Layout::CELLS],
+    kept: u64,
+    changes: &[u64; Layout::CHANGES],
+) -> bool
     ensures { λ r. ⌜ r ≡ blank (now (terms .entry)) (now (cells .entry)) kept (now (changes .entry)) ⌝ }
 {
     (kept == 0) & (zero_from(terms, 0) & (zero_from(cells, 0) & zero_from(changes, 0)))
 }
 
 // The words of an open book in form.
-fn sound(terms: &[u64; 12], cells: &[u64; 90], kept: u64, changes: &[u64; 128]) -> bool
+fn sound(
+    terms: &[u64; Layout::TERMS],
+    cells: &[u64; Layout::CELLS],
+    kept: u64,
+    changes: &[u64; Layout::CHANGES],
+) -> bool
     ensures { λ r. ⌜ r ≡ sound (now (terms .entry)) (now (cells .entry)) kept (now (changes .entry)) ⌝ }
 {
     if kept > Procedure::KEPT as u64 {
@@ -42,10 +53,10 @@ fn sound(terms: &[u64; 12], cells: &[u64; 90], kept: u64, changes: &[u64; 128]) 
 // Whether a book's words are in form.
 pub fn in_form<'a>(
     opened: u64,
-    terms: &'a [u64; 12],
-    cells: &'a [u64; 90],
+    terms: &'a [u64; Layout::TERMS],
+    cells: &'a [u64; Layout::CELLS],
     kept: u64,
-    changes: &'a [u64; 128],
+    changes: &'a [u64; Layout::CHANGES],
 ) -> bool
     ensures { λ r. ⌜ r ≡ wordsForm opened (now (terms .entry)) (now (cells .entry)) kept (now (changes .entry)) ⌝ }
 {

@@ -15,7 +15,8 @@ use Rattle.paper.specs.Calls.{read, Call, fresh, ask}
 use Rattle.paper.specs.Answers.{after}
 use Rattle.paper.specs.History.{leaves, Story, history}
 use Rattle.paper.specs.Claim.{begun}
-use Rattle.paper.proofs.History.{fresh-formed, from-fresh, from-form}
+use Rattle.paper.proofs.Stays.{fresh-formed}
+use Rattle.paper.proofs.History.{from-fresh, from-form}
 use Rattle.paper.proofs.Words.{Bare, bare}
 use Rattle.lent.specs.Image.{LENGTH, stateOf}
 use Rattle.lent.specs.Calls.{shut, callOn, called}
@@ -36,7 +37,7 @@ pub from-zeros : HoldsOn (replicate LENGTH 0) (λ k. none)
 from-zeros = subst (λ (l : List ℕ). HoldsOn l (λ k. none)) fresh-image (holds-on closed (λ k. none) fresh-formed from-fresh)
 
 -- and those are what an accepted rtk_fresh leaves, whatever was there before
-pub fresh-zeros : (bs : List ℕ) → answerOn fresh bs .refused ≡ 0 → called fresh bs .bytes ≡ replicate LENGTH 0
+fresh-zeros : (bs : List ℕ) → answerOn fresh bs .refused ≡ 0 → called fresh bs .bytes ≡ replicate LENGTH 0
 unfolding answerOn called callOn shut after
 fresh-zeros bs e = go (eqb (length bs) LENGTH) e
   where

@@ -1,10 +1,10 @@
 -- What calls do to the bytes of a register in form is what the paper says of the register; so its claim is one on bytes.
 -- Assumes nothing.
-use Prim.Native.Nat.{ℕ, zero, suc, _+_, _≤_}
+use Prim.Native.Nat.{ℕ, suc, _+_, _≤_}
 use native.Mathlib.Omega.{arith}
 use mathlib.Core.Path.{_≡_, refl, sym, ap, _∙_}
 use mathlib.Core.Logic.{_↔_, _≢_}
-use mathlib.Core.Bool.{Bool, true, false, cond, _&&_, _||_}
+use mathlib.Core.Bool.{Bool, true, false, cond, _&&_, or-true}
 use mathlib.Core.Option.{Option, none, some, Option·map}
 use mathlib.Core.List.{List, [], _∷_}
 use lib.ListN.{length, getD}
@@ -15,12 +15,13 @@ use Rattle.paper.specs.Units.{zeros, oneTo, Place, inSheet, number, isEmpty, Sp
 use Rattle.paper.specs.Books.{Book, Register, book, Sight, sight, sights}
 use Rattle.paper.specs.Calls.{Act, takeBack, read, changes, residual, evaluate, compare, passList, Call, fresh, on, ask}
 use Rattle.paper.specs.TurnedAway.{empty, lowest, refusal, evaluating, onList, has, passing, questioned}
-use Rattle.paper.specs.Answers.{lengths, numbersIn, Answer, nowhere, suspectIn, countOf, given, beside, says, unless, after, run}
+use Rattle.paper.specs.Answers.{lengths, numbersIn, Answer, nowhere, suspectIn, countOf, given, beside, says, after, run}
 use Rattle.paper.specs.Form.{formedO, InForm}
 use Rattle.paper.specs.History.{leaves, Story, told, history, asksOf, names, about}
 use Rattle.paper.specs.Claim.{Holds}
 use Rattle.paper.proofs.Form.{partsO}
-use Rattle.paper.proofs.History.{formed-after, formed-run}
+use Rattle.paper.proofs.Acts.{unless-refused}
+use Rattle.paper.proofs.Stays.{formed-after, formed-run}
 use Rattle.paper.proofs.PassList.{Rises, on-the-list, list-rises}
 use Rattle.lent.specs.Image.{LENGTH, image, inForm, stateOf}
 use Rattle.lent.specs.Calls.{Out, out, callOn, called}
@@ -56,11 +57,7 @@ refused-stays : (c : Call) (r : Register) → says c (sights r) .refused ≢ 0 �
 unfolding says after
 refused-stays fresh r n = absurd (n refl)
 refused-stays (ask q) r n = refl
-refused-stays (on k a) r n = go (refusal k a (sights r k)) _ n
-  where
-    go : (m : ℕ) (s : Register) → m ≢ 0 → unless m s r ≡ r
-    go zero s h = absurd (h refl)
-    go (suc m) s h = refl
+refused-stays (on k a) r n = unless-refused (refusal k a (sights r k)) _ r n
 
 -- ---- a call that names no book but k looks at no other
 
@@ -82,10 +79,6 @@ named-is c j k t o = go (eqb j k) refl
         let u : true ≡ false = sym t ∙ o j (eqb-false j k e) in
         let z : _≡_ {A = ℕ} 0 1 = cc in
         absurd (omega arith)
-
-or-true : (b : Bool) → b || true ≡ true
-or-true true = refl
-or-true false = refl
 
 looks-at : (c : Call) (k : ℕ) → Only k c → (s : ℕ → Option Sight) → says c s ≡ says c (λ i. s k)
 unfolding says questioned evaluating suspectIn given names asksOf

@@ -12,8 +12,9 @@ use lib.IntN.{ℤ, pos, negsuc, natAbs, _-ℤ_}
 use borrow.Author.Tests.{leb-true, lt-leb}
 use Rattle.integers.specs.Diff.{abs-minus}
 use Rattle.paper.specs.Units.{Triple, Terms, from1To, upTo, onEarth, within, inRange, approximate, near, pointOf, nearAt, allNear, Spot, Places}
+use Rattle.paper.specs.Figures.{Axis, x-axis, y-axis, h-axis, along}
 use Rattle.paper.specs.Books.{Change, make}
-use Rattle.paper.proofs.Tests.{and-left, and-right}
+use Rattle.paper.proofs.Tests.{and-left, and-right, one-le, along-within}
 use Rattle.paper.proofs.Form.{AllFit}
 use Rattle.image.specs.Lengths.{ORIGIN, len, word, wordOr, triple, tripleWords, termsOf, termWords, termWordsOr, tripleAt}
 use Rattle.image.specs.Places.{allZero, spotOf, spotWords, cellsOf}
@@ -24,7 +25,7 @@ use Rattle.image.proofs.Changes.{KeptShort}
 
 -- ---- chains of tests
 
-pub split3 : (a b c : Bool) → a && b && c ≡ true → (a ≡ true) × (b ≡ true) × (c ≡ true)
+split3 : (a b c : Bool) → a && b && c ≡ true → (a ≡ true) × (b ≡ true) × (c ≡ true)
 split3 a b c e = let f = and-left (a && b) c e in (and-left a b f, and-right a b f, and-right (a && b) c e)
 
 and-no : (a b : Bool) → b ≡ false → a && b ≡ false
@@ -76,23 +77,24 @@ ranged t e =
 
 -- ---- terms
 
-one-le : (n : ℕ) (z : ℤ) → from1To n z ≡ true → natAbs z ≤ n
-one-le n (pos k) e = leb-true k n (and-right (leb 1 k) (leb k n) e)
-one-le n (negsuc k) e = let z : _≡_ {A = ℕ} 0 1 = cc in absurd (omega arith)
-
 up-le : (n : ℕ) (z : ℤ) → upTo n z ≡ true → natAbs z ≤ n
 up-le n z e = leb-true (natAbs z) n e
 
-pub record OnEarth (p : Triple) : Type 0 where
-  pub x : natAbs (p .x) ≤ 100000000000
-  pub y : natAbs (p .y) ≤ 100000000000
-  pub h : natAbs (p .h) ≤ 100000000000
+record OnEarth (p : Triple) : Type 0 where
+  x : natAbs (p .x) ≤ 100000000000
+  y : natAbs (p .y) ≤ 100000000000
+  h : natAbs (p .h) ≤ 100000000000
 
-pub on-earth : (p : Triple) → onEarth p ≡ true → OnEarth p
+on-earth : (p : Triple) → onEarth p ≡ true → OnEarth p
 unfolding onEarth
 on-earth p e =
     let f = split3 (upTo 100000000000 (p .x)) (upTo 100000000000 (p .y)) (upTo 100000000000 (p .h)) e in
     record { x = up-le 100000000000 (p .x) (f .0); y = up-le 100000000000 (p .y) (f .1); h = up-le 100000000000 (p .h) (f .2) }
+
+pub along-earth : (a : Axis) (p : Triple) → onEarth p ≡ true → natAbs (along a p) ≤ 100000000000
+along-earth x-axis p e = on-earth p e .x
+along-earth y-axis p e = on-earth p e .y
+along-earth h-axis p e = on-earth p e .h
 
 back-triple : (p : Triple) → OnEarth p → _≡_ {A = Triple} (record { x = len (word (p .x)); y = len (word (p .y)); h = len (word (p .h)) }) p
 back-triple p o = rw (len-word (p .x) (omega (arith, o .x)), len-word (p .y) (omega (arith, o .y)), len-word (p .h) (omega (arith, o .h)))
@@ -115,21 +117,23 @@ terms-back t e =
 
 -- ---- readings
 
-pub earth-point : (t : Terms) (k : ℕ) → inRange t ≡ true → OnEarth (approximate t k)
+earth-point : (t : Terms) (k : ℕ) → inRange t ≡ true → OnEarth (approximate t k)
 earth-point t k e = go (eqb k 1)
   where
     go : (b : Bool) → OnEarth (mathlib.Core.Bool.cond b (t .point1) (t .point2))
     go true = on-earth (t .point1) (ranged t e .point1)
     go false = on-earth (t .point2) (ranged t e .point2)
 
-near-bound : (x X : ℤ) → upTo 100000 (x -ℤ X) ≡ true → natAbs X ≤ 100000000000 → natAbs x < ORIGIN
-near-bound x X e h = omega (arith, up-le 100000 (x -ℤ X) e, abs-minus x X)
+near-bound : (x X : ℤ) → natAbs (x -ℤ X) ≤ 100000 → natAbs X ≤ 100000000000 → natAbs x < ORIGIN
+near-bound x X e h = omega (arith, abs-minus x X)
 
 within-short : (p v : Triple) → OnEarth p → within 100000 p v ≡ true → Short (some v)
-unfolding within Short
-within-short p v o e =
-    let f = split3 (upTo 100000 (v .x -ℤ p .x)) (upTo 100000 (v .y -ℤ p .y)) (upTo 100000 (v .h -ℤ p .h)) e in
-    (near-bound (v .x) (p .x) (f .0) (o .x), near-bound (v .y) (p .y) (f .1) (o .y), near-bound (v .h) (p .h) (f .2) (o .h))
+unfolding Short
+within-short p v o e = (
+  near-bound (v .x) (p .x) (along-within 100000 x-axis p v e) (o .x),
+  near-bound (v .y) (p .y) (along-within 100000 y-axis p v e) (o .y),
+  near-bound (v .h) (p .h) (along-within 100000 h-axis p v e) (o .h),
+)
 
 pub near-short : (t : Terms) (k : ℕ) (v : Triple) → inRange t ≡ true → near t k v ≡ true → Short (some v)
 near-short t k v r e = within-short (approximate t k) v (earth-point t k r) e

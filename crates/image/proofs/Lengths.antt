@@ -15,7 +15,7 @@ use Rattle.integers.specs.Ring.{minus-minus}
 use Rattle.integers.specs.Diff.{bias-back, bias-le, minus-sub, sub-ge, sub-lt, sub-eq, ≤-or-<}
 use Rattle.paper.specs.Units.{Terms, approximate}
 use Rattle.paper.specs.Figures.{along}
-use Rattle.image.specs.Lengths.{ORIGIN, LONGEST, len, word, wordOr, tripleAt, tripleWords, termsOf, termWords, termWordsOr}
+use Rattle.image.specs.Lengths.{ORIGIN, GREATEST, len, word, wordOr, tripleAt, tripleWords, termsOf, termWords, termWordsOr}
 use Rattle.image.specs.Places.{axisOf}
 
 -- ---- both ways
@@ -44,7 +44,7 @@ word-small z h = omega (arith, bias-le ORIGIN ORIGIN z h)
 -- a word whose length is short is below 2·10^12
 pub len-bound : (w : ℕ) → natAbs (len w) < ORIGIN → w < 2 * ORIGIN
 unfolding word
-len-bound w h = omega (arith, word-len w, bias-le ORIGIN LONGEST (len w) (omega arith))
+len-bound w h = omega (arith, word-len w, bias-le ORIGIN GREATEST (len w) (omega arith))
 
 -- ---- a number of any size
 

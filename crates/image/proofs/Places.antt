@@ -6,7 +6,7 @@ use mathlib.Core.Path.{_≡_, refl, sym, ap, _∙_}
 use mathlib.Core.Bool.{Bool, true, false, cond, _&&_}
 use mathlib.Core.Option.{none, some}
 use mathlib.Core.List.{List, [], _∷_, _++_}
-use lib.ListN.{length, getD, set, drop, length-append, length-drop}
+use lib.ListN.{length, getD, set, drop, length-append, length-drop, drop-of-length-le}
 use lib.Seq.{getD-drop}
 use lib.Dec.{eqb}
 use lib.IntN.{natAbs}
@@ -86,14 +86,10 @@ three-front (a ∷ []) h = absurd (omega arith)
 three-front (a ∷ b ∷ []) h = absurd (omega arith)
 three-front (a ∷ b ∷ c ∷ l) h = refl
 
-nil-of : (l : List ℕ) → length l ≡ 0 → [] ≡ l
-nil-of [] e = refl
-nil-of (x ∷ l) e = absurd (omega arith)
-
 -- words to places to words, whatever the words
 pub cells-spots : (n : ℕ) (l : List ℕ) → length l ≡ 3 * n → cellsOf (spots n l) ≡ l
 unfolding spots cellsOf
-cells-spots zero l e = nil-of l e
+cells-spots zero l e = sym (drop-of-length-le l {i = 0} (omega arith))
 cells-spots (suc n) l e =
     let m : length (drop 3 l) ≡ 3 * n = rw length-drop (omega arith) in
     rw (words-spot (getD l 0 0) (getD l 1 0) (getD l 2 0), cells-spots n (drop 3 l) m) (three-front l (omega arith))
@@ -108,7 +104,7 @@ unfolding spots cellsOf AllShort
 spots-cells [] f = refl
 spots-cells (v ∷ l) f = rw (spot-words v (cellsOf l) (f .0), spot-rest v (cellsOf l), spots-cells l (f .1))
 
-pub spots-at : (n : ℕ) (l : List ℕ) (p : ℕ) → p < n → getD (spots n l) p none ≡ spotAt l (p * 3)
+spots-at : (n : ℕ) (l : List ℕ) (p : ℕ) → p < n → getD (spots n l) p none ≡ spotAt l (p * 3)
 unfolding spots
 spots-at zero l p k = absurd (omega arith)
 spots-at (suc n) l zero k = refl

@@ -12,9 +12,9 @@ use Rattle.paper.specs.Units.{Triple, Terms}
 abbrev pub ORIGIN : ℕ
 ORIGIN = 1000000000000
 
--- the longest length that has a word
-abbrev pub LONGEST : ℕ
-LONGEST = 999999999999
+-- the greatest length that has a word
+abbrev pub GREATEST : ℕ
+GREATEST = 999999999999
 
 -- the length that a word stands for
 unfoldable pub len : ℕ → ℤ

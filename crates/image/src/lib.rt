@@ -1,9 +1,36 @@
 // Numbers of any size to what the words of a book hold, and back.
 ghost use mathlib.Core.Path.{_≡_};
-ghost use Prim.Native.Nat.{_*_, _<_};
+ghost use Prim.Native.Nat.{_+_, _*_, _-_, _≤_, _<_};
+ghost use Rattle.paper.specs.Procedure.{SERIES, SETS, POINTS};
 ghost use Rattle.image.specs.Lengths.{ORIGIN, len, wordOr, termWordsOr, termsGiven};
 ghost use Rattle.image.specs.Places.{placeOf};
 use procedure::Procedure;
+
+// How a book lies in words, and a register in bytes.
+pub struct Layout;
+
+impl Layout {
+    // The words of the terms, of the readings (three a place), of the kept changes (four each).
+    pub const TERMS: usize = 12;
+
+    pub const CELLS: usize = 3 * Procedure::PLACES;
+
+    pub const CHANGES: usize = 4 * Procedure::KEPT;
+
+    // Where they begin in the bytes of a book: behind the word that says whether it is open, and the count of the changes before these.
+    pub const TERMS_AT: usize = 8;
+
+    pub const CELLS_AT: usize = Self::TERMS_AT + 8 * Self::TERMS;
+
+    pub const KEPT_AT: usize = Self::CELLS_AT + 8 * Self::CELLS;
+
+    pub const CHANGES_AT: usize = Self::KEPT_AT + 8;
+
+    // The bytes of a book, and of a register: the length that is published.
+    pub const BOOK: usize = Self::CHANGES_AT + 8 * Self::CHANGES;
+
+    pub const REGISTER: usize = Procedure::BOOKS * Self::BOOK;
+}
 
 // The word of the length 0.
 pub const ORIGIN: u64 = 1000000000000;
@@ -43,7 +70,7 @@ pub fn terms_of(
     x2: i64,
     y2: i64,
     h2: i64,
-) -> [u64; 12]
+) -> [u64; Layout::TERMS]
     ensures { λ r. ⌜ r ≡ termWordsOr (termsGiven distance height sxy sh gxy gh x1 y1 h1 x2 y2 h2) ⌝ }
 {
     [
@@ -70,28 +97,24 @@ pub fn length_of(w: u64) -> i64
     (w as i64) - SHIFT
 }
 
-// The number of a place in sheet order, from 0; the number of places where it is none.
+// Where a place of the sheet stands in sheet order, from 0.
+fn number(series: u64, set: u64, point: u64) -> usize
+    requires { ⌜ ((1 ≤ series) × (series ≤ SERIES)) × ((1 ≤ set) × (set ≤ SETS)) × ((1 ≤ point) × (point ≤ POINTS)) ⌝ }
+    ensures { λ r. ⌜ r ≡ ((series - 1) * SETS + (set - 1)) * POINTS + (point - 1) ⌝ }
+{
+    let round = (series - 1) as usize * Procedure::SETS + (set - 1) as usize;
+    round * Procedure::POINTS + (point - 1) as usize
+}
+
+// The number of a place; the number of places where it is none.
 pub fn place_of(series: u64, set: u64, point: u64) -> usize
     ensures { λ r. ⌜ r ≡ placeOf (record { series = series; set = set; point = point }) ⌝ }
 {
-    if series < 1 {
-        return Procedure::PLACES;
+    if procedure::one_to(Procedure::SERIES as u64, series)
+        & procedure::one_to(Procedure::SETS as u64, set)
+        & procedure::one_to(Procedure::POINTS as u64, point)
+    {
+        return number(series, set, point);
     }
-    if series > Procedure::SERIES as u64 {
-        return Procedure::PLACES;
-    }
-    if set < 1 {
-        return Procedure::PLACES;
-    }
-    if set > Procedure::SETS as u64 {
-        return Procedure::PLACES;
-    }
-    if point < 1 {
-        return Procedure::PLACES;
-    }
-    if point > Procedure::POINTS as u64 {
-        return Procedure::PLACES;
-    }
-    let round = (series - 1) as usize * Procedure::SETS + (set - 1) as usize;
-    round * Procedure::POINTS + (point - 1) as usize
+    Procedure::PLACES
 }

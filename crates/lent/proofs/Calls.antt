@@ -1,6 +1,6 @@
 -- What the shape promises of every call.
 -- Assumes nothing.
-use Prim.Native.Nat.{ℕ, zero, suc}
+use Prim.Native.Nat.{ℕ}
 use mathlib.Core.Path.{_≡_, refl, sym, ap, _∙_, subst}
 use mathlib.Core.Bool.{Bool, true, false, cond}
 use mathlib.Core.Option.{Option, none, some}
@@ -12,7 +12,8 @@ use Rattle.paper.specs.Books as paper
 use Rattle.paper.specs.Calls.{Question, Call, fresh, on, ask}
 use Rattle.paper.specs.Refusals.{REGISTER}
 use Rattle.paper.specs.TurnedAway.{Rule, _when_, Lowest, refusal}
-use Rattle.paper.specs.Answers.{unless, says, after}
+use Rattle.paper.specs.Answers.{says, after}
+use Rattle.paper.proofs.Acts.{unless-refused}
 use Rattle.paper.proofs.Agreement.{rulesOf, rules-rise, says-rules, register-lowest}
 use Rattle.stored.proofs.Image.{Bytes}
 use Rattle.lent.specs.Image.{LENGTH, image, meantFrom, inForm, stateOf}
@@ -39,15 +40,11 @@ refused-bytes fresh bs y n = go (eqb (length bs) LENGTH) n
 refused-bytes (ask q) bs y n = ask-bytes q bs y
 refused-bytes (on k a) bs y n = go (inForm bs) refl n
   where
-    on-refused : (m : ℕ) (x r : paper.Register) → (m ≡ 0 → ⊥) → unless m x r ≡ r
-    on-refused zero x r h = absurd (h refl)
-    on-refused (suc m) x r h = refl
-
     go : (i : Bool) → inForm bs ≡ i → (callOn (on k a) (stateOf bs) bs .answer .refused ≡ 0 → ⊥) → callOn (on k a) (stateOf bs) bs .bytes ≡ bs
     go false e m = rw (state-out bs e)
     go true e m =
         let m′ : refusal k a (paper.sights (meantFrom BOOKS bs) k) ≡ 0 → ⊥ = subst (λ (s : Option paper.Register). callOn (on k a) s bs .answer .refused ≡ 0 → ⊥) (state-in bs e) m in
-        rw (state-in bs e) (ap image (on-refused _ _ (meantFrom BOOKS bs) m′) ∙ form-image-is bs y e)
+        rw (state-in bs e) (ap image (unless-refused _ _ (meantFrom BOOKS bs) m′) ∙ form-image-is bs y e)
 
 -- ---- of the rules that apply the lowest number is given, REGISTER among them
 

@@ -5,10 +5,10 @@ use native.Mathlib.Omega.{arith}
 use mathlib.Core.Path.{_≡_, refl, sym, ap, _∙_}
 use mathlib.Core.Logic.{_≢_}
 use mathlib.Core.Bool.{Bool, true, false}
-use mathlib.Core.Option.{Option, none}
+use mathlib.Core.Option.{none}
 use mathlib.Core.List.{List, [], _∷_, _++_}
 use lib.ListN.{length, getD, take, drop}
-use lib.Seq.{getD-set-other, drop-drop, take-at, drop-at}
+use lib.Seq.{drop-drop, take-at, drop-at}
 use Rattle.paper.specs.Procedure.{BOOKS}
 use Rattle.paper.specs.Books as paper
 use Rattle.paper.specs.Calls.{Act, on, effect, affected}
@@ -16,7 +16,8 @@ use Rattle.paper.specs.TurnedAway.{refusal}
 use Rattle.paper.specs.Answers.{unless, after}
 use Rattle.paper.specs.Form.{formedO}
 use Rattle.paper.proofs.Tests.{and-left, and-right}
-use Rattle.paper.proofs.History.{formed-after}
+use Rattle.paper.proofs.Acts.{put-other}
+use Rattle.paper.proofs.Stays.{formed-after}
 use Rattle.stored.specs.Image.{BOOK, bookBytes}
 use Rattle.stored.proofs.Image.{Bytes, length-book}
 use Rattle.lent.specs.Image.{image, meantFrom, inForm, stateOf}
@@ -37,16 +38,12 @@ image-book (o ∷ r) (suc i) e h =
     rw (j, ← drop-drop (i * BOOK) BOOK (bookBytes o ++ image r), drop-at (bookBytes o) (image r) BOOK n)
     (image-book r i (and-right (formedO o) (allFormed r) e) (omega arith))
 
-put-other : (r : paper.Register) (k i : ℕ) (o : Option paper.Book) → suc i ≢ k → getD (paper.put r k o) i none ≡ getD r i none
-put-other r zero i o n = refl
-put-other r (suc k) i o n = getD-set-other r k i o none (λ e. n (ap suc e))
-
 after-other : (k i : ℕ) (a : Act) (r : paper.Register) → suc i ≢ k → getD (after (on k a) r) i none ≡ getD r i none
 unfolding after
 after-other k i a r n = go (refusal k a (paper.sights r k))
   where
     go : (m : ℕ) → getD (unless m (paper.put r k (affected (effect a) (paper.book r k))) r) i none ≡ getD r i none
-    go zero = put-other r k i (affected (effect a) (paper.book r k)) n
+    go zero = put-other r k (suc i) (affected (effect a) (paper.book r k)) (λ e. n (sym e))
     go (suc m) = refl
 
 -- LAW: after a call on book k the bytes of every other book are as they were

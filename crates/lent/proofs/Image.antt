@@ -7,7 +7,7 @@ use mathlib.Core.Path.{_≡_, refl, sym, ap, _∙_, subst}
 use mathlib.Core.Bool.{Bool, true, false, cond, _&&_, and-assoc}
 use mathlib.Core.Option.{Option, none, some}
 use mathlib.Core.List.{List, [], _∷_, _++_}
-use lib.ListN.{length, getD, set, drop, replicate, length-append, length-drop, take-append-drop}
+use lib.ListN.{length, getD, set, drop, replicate, length-append, length-drop, take-append-drop, drop-of-length-le, replicate-append-replicate}
 use lib.Seq.{drop-drop, getD-drop, drop-at}
 use lib.Dec.{eqb}
 use borrow.Author.Tests.{eq-eqb, ne-eqb, eqb-true}
@@ -100,13 +100,9 @@ form-at bs k e h = form-some BOOKS bs k (form-all bs e) h
 
 -- ---- bytes to register to bytes
 
-nil-of : (l : List ℕ) → length l ≡ 0 → [] ≡ l
-nil-of [] e = refl
-nil-of (x ∷ l) e = absurd (omega arith)
-
 image-meant : (n : ℕ) (bs : List ℕ) → length bs ≡ BOOK * n → Bytes bs → formFrom n bs ≡ true → image (meantFrom n bs) ≡ bs
 unfolding image meantFrom formFrom
-image-meant zero bs l y e = nil-of bs l
+image-meant zero bs l y e = sym (drop-of-length-le bs {i = 0} (omega arith))
 image-meant (suc n) bs l y e =
     let f = and-left (bookForm (bookAt bs 0)) (formFrom n (drop BOOK bs)) e in
     let m : length (drop BOOK bs) ≡ BOOK * n = rw length-drop (omega arith) in
@@ -239,14 +235,10 @@ state-image bs r y e = go (inForm bs) refl e
 
 -- ---- a fresh register
 
-zeros-add : (n m : ℕ) → _≡_ {A = List ℕ} (replicate n 0 ++ replicate m 0) (replicate (n + m) 0)
-zeros-add zero m = rw zero-add
-zeros-add (suc n) m = let e : suc n + m ≡ suc (n + m) = omega arith in rw e (ap (λ (l : List ℕ). 0 ∷ l) (zeros-add n m))
-
 closed-image : (n : ℕ) → image (replicate n none) ≡ replicate (BOOK * n) 0
 unfolding image
 closed-image zero = refl
-closed-image (suc n) = let e : BOOK * suc n ≡ BOOK + BOOK * n = omega arith in rw (closed-bytes, closed-image n, zeros-add BOOK (BOOK * n), e)
+closed-image (suc n) = let e : BOOK * suc n ≡ BOOK + BOOK * n = omega arith in rw (closed-bytes, closed-image n, replicate-append-replicate {A = ℕ} BOOK (BOOK * n) 0, e)
 
 -- a fresh register's bytes: all zero
 pub fresh-image : image paper.closed ≡ replicate LENGTH 0

@@ -13,7 +13,7 @@ use Rattle.stored.specs.Image.{BOOK, bookBytes, bookAt}
 
 -- the bytes of a register
 abbrev pub LENGTH : ℕ
-LENGTH = 29696
+LENGTH = BOOKS * BOOK
 
 unfoldable pub image : paper.Register → List ℕ
 image [] = []

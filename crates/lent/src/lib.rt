@@ -3,17 +3,8 @@ ghost use mathlib.Core.Path.{_≡_};
 ghost use Prim.Native.Nat.{_≤_};
 ghost use Rattle.paper.specs.Procedure.{BOOKS};
 ghost use Rattle.lent.specs.Image.{inForm, formBetween};
+use image::Layout;
 use procedure::Procedure;
-
-pub struct Layout;
-
-impl Layout {
-    // The bytes of a book: 232 words.
-    pub const BOOK: usize = 1856;
-
-    // The bytes of a register: the length that is published.
-    pub const REGISTER: usize = 29696;
-}
 
 // Whether the length is right and the books from one to another are in form, counted from 0, the last not among them.
 pub fn formed_from(register: &[u8], from: usize, to: usize) -> bool

@@ -1,14 +1,15 @@
 -- A turn of each loop.
 -- Assumes nothing.
-use Prim.Native.Nat.{ℕ, zero, suc, _+_, _-_, _*_, _≤_, _<_}
+use Prim.Native.Nat.{ℕ, suc, _+_, _-_, _*_, _≤_, _<_}
 use native.Mathlib.Omega.{arith}
 use native.Mathlib.Numerals.{add-one}
-use mathlib.Core.Path.{_≡_, refl, sym, ap, _∙_}
+use native.Mathlib.Nat.{zero-add}
+use mathlib.Core.Path.{_≡_, refl, sym, _∙_}
 use mathlib.Core.Bool.{true, false, cond}
 use mathlib.Core.Option.{none, some, Option·map}
 use mathlib.Core.List.{List, [], _∷_, _++_, append-nil}
 use lib.ListN.{length, take, drop, getD, set, replicate}
-use lib.Seq.{drop-cons, set-at, take-suc, append-snoc, length-take-le, take-suc-set, take-length, drop-length}
+use lib.Seq.{paste-suc, take-suc-set, take-length, drop-length}
 use Rattle.paper.specs.Procedure.{BOOKS}
 use Rattle.paper.specs.Books.{sight, sights}
 use Rattle.paper.specs.Screening.{each}
@@ -46,21 +47,7 @@ module _ (bs : List ℕ) (k : ℕ) (h : k < BOOKS) where
 
 pub write-turn : (xs out : List ℕ) (i : ℕ) → i < length xs → length xs ≤ length out
     → set (take i xs ++ drop i out) i (getD xs i 0) ≡ take (i + 1) xs ++ drop (i + 1) out
-write-turn xs out i h e =
-    let k : i < length out = omega arith in
-    let l : length (take i xs) ≡ i = length-take-le i xs (omega arith) in
-    rw (drop-cons out i 0, set-at (take i xs) _ _ _ i l, add-one i, take-suc xs i 0, append-snoc)
-
-replicate-snoc : (n : ℕ) (l : List ℕ) → replicate n 0 ++ (0 ∷ l) ≡ replicate (suc n) 0 ++ l
-replicate-snoc zero l = refl
-replicate-snoc (suc n) l = ap (λ (k : List ℕ). 0 ∷ k) (replicate-snoc n l)
-
-length-zeros : (n : ℕ) → length {A = ℕ} (replicate n 0) ≡ n
-length-zeros zero = refl
-length-zeros (suc n) = ap suc (length-zeros n)
-
-pub clear-turn : (out : List ℕ) (i : ℕ) → i < length out → set (replicate i 0 ++ drop i out) i 0 ≡ replicate (i + 1) 0 ++ drop (i + 1) out
-clear-turn out i h = rw (drop-cons out i 0, set-at (replicate i 0) _ _ _ i (length-zeros i), add-one i) (replicate-snoc i (drop (suc i) out))
+write-turn xs out i h e = rw (add-one i) (rw (zero-add i, zero-add (suc i)) at (paste-suc out 0 xs i 0 (omega arith) h))
 
 -- ---- at the end of each loop
 

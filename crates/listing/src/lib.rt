@@ -11,7 +11,7 @@ ghost use Rattle.paper.specs.TurnedAway.{onList, passing};
 ghost use Rattle.book.specs.Meaning.{meant};
 ghost use Rattle.stored.specs.Image.{BOOK, bookAt};
 ghost use Rattle.lent.specs.Image.{meantFrom, inForm};
-use lent::Layout;
+use image::Layout;
 use procedure::Procedure;
 
 // Whether the book with that number, counted from 0, is on the list.

@@ -12,23 +12,14 @@ use procedure::Refusal;
 fn refused(first: Book, second: Book, axis: u64) -> u64
     ensures { λ r. ⌜ r ≡ refusedOf first second axis ⌝ }
 {
-    if book::in_form(first) {
-        if book::in_form(second) {
-            if axis < 1 {
-                return Refusal::PLACE;
-            }
-            if axis > 2 {
-                return Refusal::PLACE;
-            }
-            if first.opened == 0 {
-                return Refusal::CLOSED;
-            }
-            if second.opened == 0 {
+    if book::in_form(first) & book::in_form(second) {
+        if procedure::one_to(2, axis) {
+            if (first.opened == 0) | (second.opened == 0) {
                 return Refusal::CLOSED;
             }
             return 0;
         }
-        return Refusal::REGISTER;
+        return Refusal::PLACE;
     }
     Refusal::REGISTER
 }

@@ -84,6 +84,11 @@ able (withdraw p) (some s) e =
     none-fits p s (not-false _ (a .0)) (c .0)
 able takeBack (some s) e = some-kept s (passed 8 _ _ (passed 4 _ _ e .1) .0)
 
+-- a refusal leaves what was there
+pub unless-refused {ℓ} : {A : Type ℓ} (m : ℕ) (new old : A) → (m ≡ 0 → ⊥) → unless m new old ≡ old
+unless-refused zero new old f = absurd (f refl)
+unless-refused (suc m) new old f = refl
+
 -- ---- the books of a register
 
 getD-none : (n k : ℕ) → _≡_ {A = Option Book} (getD (replicate n none) k none) none

@@ -14,7 +14,7 @@ use Rattle.whole.specs.Root.{digits, rootOf}
 use Rattle.whole.specs.Greatest.{greatestOf}
 use Rattle.whole.specs.Nearest.{nearestOf}
 use Rattle.paper.specs.Procedure.{SERIES, SETS, POINTS, PLACES}
-use Rattle.paper.specs.Units.{Triple, zeros, Terms, onEarth, within, inRange, near, Place, inSheet, inOrder, Spot, allNear, Places}
+use Rattle.paper.specs.Units.{Triple, zeros, Terms, onEarth, within, inRange, near, Place, inSheet, inOrder, allNear, Places}
 use Rattle.paper.specs.Screening.{q, D, distanceOff, heightOff, passes, Suspect, suspicious, each, sheetOrder, first, firstSuspect}
 use Rattle.paper.specs.Figures.{x-axis, offset, S, Q, residual15, P, shown, figures}
 use Rattle.paper.specs.Verdicts.{boundXY, boundH, judgedXY, judgedH, evaluation, bothWithin, sum, samePopulation}
@@ -69,7 +69,7 @@ unfolding termsWith
 terms = termsWith []
 
 -- every point 2 reading is 100000 0 0, the point 1 readings are those of g
-unfoldable pub sheet : (ℕ → ℕ → Triple) → ℕ → ℕ → ℕ → Triple
+unfoldable sheet : (ℕ → ℕ → Triple) → ℕ → ℕ → ℕ → Triple
 unfolding triple
 sheet g i j k = cond (eqb k 2) (triple (pos 100000) (pos 0) (pos 0)) (g i j)
 
@@ -196,7 +196,7 @@ refusals : Register → List Call → List ℕ
 refusals r [] = []
 refusals r (c ∷ cs) = says c (sights r) .refused ∷ refusals (after c r) cs
 
-unfoldable pub gives : Input → List ℕ
+unfoldable gives : Input → List ℕ
 unfolding bit answer suspected sheetOf state stateO terms termsWith triple pair refusals each size span climb Σℤ ΣN digits rootOf greatestOf nearestOf onEarth within inRange inSheet inOrder allNear q D distanceOff heightOff passes suspicious sheetOrder first firstSuspect offset S Q residual15 P shown figures boundXY boundH judgedXY judgedH evaluation bothWithin sum samePopulation make inverse nothing blank changed undone closed sight sights empty far nothingKept short suspectOf sumOf lowest rules evaluating refusal evaluated onList passing questioned suspectIn given beside says effect affected after run refusedAlone next askedAlone comparedAlone refusedFile bookOf evaluatedFile
 gives (screens s d) = bit (passes s d) ∷ []
 gives (roots n) = nearestOf n ∷ []

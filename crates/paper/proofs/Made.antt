@@ -3,7 +3,6 @@
 -- Assumes nothing.
 use Prim.Native.Nat.{ℕ, _+_, _*_, _/_, _%_, _<_}
 use native.Mathlib.Omega.{arith}
-use native.Mathlib.Nat.{zero-add}
 use mathlib.Core.Path.{_≡_, refl}
 use mathlib.Core.Bool.{true, false, _&&_}
 use mathlib.Core.Option.{none, some}
@@ -16,7 +15,7 @@ use Rattle.paper.specs.Calls.{Act, enter, correct, withdraw, makes, effe
 use Rattle.paper.specs.TurnedAway.{empty, far, lowest, rules}
 use Rattle.paper.proofs.Form.{Fits}
 use Rattle.paper.proofs.Acts.{make-inverse, put-there}
-use Rattle.paper.proofs.Stays.{near-at}
+use Rattle.paper.proofs.Stays.{near-there}
 
 -- the place with that number
 placeAt : ℕ → Place
@@ -51,7 +50,7 @@ module _ (t : Terms) (l : Places) (c : Change) (thirty : length l ≡ PLACES) (c
   stood = rw (number-at (c .place)) (put-there c l (fit .reaches) thirty)
 
   stands-near : nearAt t (c .place) (getD l (c .place) none) ≡ true
-  stands-near = rw zero-add at (near-at t 0 l (c .place) close)
+  stands-near = near-there t l (c .place) close
 
   keeps-it : inverse (inverse c l) (make c l) ≡ c
   unfolding inverse

@@ -2,8 +2,9 @@
 -- Assumes nothing.
 use Prim.Native.Nat.{ℕ, zero, suc, _+_, _-_, _≤_}
 use native.Mathlib.Omega.{arith}
+use native.Mathlib.Nat.{zero-add}
 use mathlib.Core.Path.{_≡_, refl, _∙_, subst}
-use mathlib.Core.Bool.{true}
+use mathlib.Core.Bool.{true, and-comm}
 use mathlib.Core.Option.{Option, none, some, Option·map}
 use mathlib.Core.List.{List, [], _∷_}
 use lib.ListN.{length, getD, set, take, replicate, length-take}
@@ -14,13 +15,13 @@ use Rattle.paper.specs.Calls.{Act, Call, fresh, on, ask, Effect, opens, 
 use Rattle.paper.specs.TurnedAway.{lowest, rules, refusal}
 use Rattle.paper.specs.Answers.{unless, after, run}
 use Rattle.paper.specs.Form.{formedO, InForm}
-use Rattle.paper.proofs.Tests.{and-left, and-right, and-both, and-comm}
+use Rattle.paper.proofs.Tests.{and-left, and-right, and-both}
 use Rattle.paper.proofs.Form.{Fits, AllFit, Formed, FormedO, partsO, wholeO}
 use Rattle.paper.proofs.Acts.{make-inverse, put-there, length-make, Able, no-objection, able, book-closed, length-after, length-closed}
 
 -- ---- readings near their points stay so
 
-pub near-at : (t : Terms) (n : ℕ) (l : Places) (i : ℕ) → allNear t n l ≡ true → nearAt t (n + i) (getD l i none) ≡ true
+near-at : (t : Terms) (n : ℕ) (l : Places) (i : ℕ) → allNear t n l ≡ true → nearAt t (n + i) (getD l i none) ≡ true
 unfolding allNear
 near-at t n [] i h = refl
 near-at t n (v ∷ vs) zero h = rw (plus n) (and-left (nearAt t n v) (allNear t (suc n) vs) h)
@@ -31,6 +32,9 @@ near-at t n (v ∷ vs) (suc i) h = rw (shift n i) (near-at t (suc n) vs i (and-r
   where
     shift : (n i : ℕ) → n + suc i ≡ suc n + i
     shift n i = omega arith
+
+pub near-there : (t : Terms) (l : Places) (i : ℕ) → allNear t 0 l ≡ true → nearAt t i (getD l i none) ≡ true
+near-there t l i h = rw zero-add at (near-at t 0 l i h)
 
 near-set : (t : Terms) (n : ℕ) (l : Places) (i : ℕ) (v : Spot) → allNear t n l ≡ true → nearAt t (n + i) v ≡ true → allNear t n (set l i v) ≡ true
 unfolding allNear
@@ -66,12 +70,9 @@ fits-inverse : (t : Terms) (l : Places) (c : Change) → length l ≡ PLACES →
 unfolding inverse
 fits-inverse t l c n h f = record {
   reaches = f .reaches;
-  close = subst (λ (m : ℕ). nearAt t m (getD l (c .place) none) ≡ true) (plus (c .place)) (near-at t 0 l (c .place) h);
+  close = near-there t l (c .place) h;
   real = rw (put-there c l (f .reaches) n) (and-comm (isEmpty (getD l (c .place) none)) (isEmpty (c .put)) ∙ f .real);
 }
-  where
-    plus : (n : ℕ) → 0 + n ≡ n
-    plus n = omega arith
 
 formed-undone : (ks : List Change) (b : Book) → Formed b → AllFit (b .terms) (b .places) ks → length ks ≤ KEPT → Formed (undone ks b)
 unfolding undone

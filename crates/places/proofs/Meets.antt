@@ -2,10 +2,9 @@
 -- Assumes nothing.
 use Prim.Native.Nat.{ℕ, zero, suc, _+_, _-_, _*_, _%_, _≤_, _<_}
 use native.Mathlib.Omega.{arith}
-use native.Mathlib.Nat.{zero-add}
 use mathlib.Core.Path.{_≡_, refl, sym, ap, _∙_, subst}
 use mathlib.Core.Logic.{⊎-elim}
-use mathlib.Core.Bool.{Bool, true, false, _&&_, _||_}
+use mathlib.Core.Bool.{Bool, true, false, _||_}
 use mathlib.Core.Option.{none}
 use mathlib.Core.List.{List, [], _∷_}
 use lib.ListN.{length, getD}
@@ -13,36 +12,27 @@ use lib.IntN.{natAbs, _-ℤ_}
 use borrow.Author.Tests.{leb-true}
 use Rattle.integers.specs.Diff.{sub-ge, sub-lt, ≤-or-<, abs-sub-range}
 use Rattle.paper.specs.Procedure.{PLACES}
-use Rattle.paper.specs.Units.{from1To, upTo, onEarth, within, inRange, isEmpty, Places, nearAt, allNear, reading, standing}
+use Rattle.paper.specs.Units.{from1To, onEarth, within, inRange, isEmpty, Places, nearAt, allNear, reading, standing}
 use Rattle.paper.specs.TurnedAway.{some?}
-use Rattle.paper.proofs.Tests.{and-left, and-right, among}
-use Rattle.paper.proofs.History.{near-at}
+use Rattle.paper.proofs.Tests.{among, along-within}
+use Rattle.paper.proofs.Stays.{near-there}
 use Rattle.image.specs.Lengths.{ORIGIN, len, tripleAt, termsOf}
-use Rattle.image.specs.Places.{allZero, spotOf, spotAt, placesOf}
+use Rattle.image.specs.Places.{allZero, spotOf, spotAt, placesOf, axisOf}
 use Rattle.image.specs.Ready.{Ready, Between}
-use Rattle.image.proofs.Lengths.{len-minus}
+use Rattle.image.proofs.Lengths.{len-minus, along-at}
 use Rattle.image.proofs.Places.{place-at, length-spots, empty-spot}
-use Rattle.image.proofs.Bounds.{split3}
+use Rattle.image.proofs.Bounds.{Ranged, ranged, along-earth}
 use Rattle.ranges.proofs.Laws.{near-at-point}
 use Rattle.places.proofs.Laws.{spot-some}
 
-split4 : (a b c d : Bool) → a && b && c && d ≡ true → (a ≡ true) × (b ≡ true) × (c ≡ true) × (d ≡ true)
-split4 a b c d e = let f = split3 a b c (and-left (a && b && c) d e) in (f .0, f .1, f .2, and-right (a && b && c) d e)
-
-split6 : (a b c d x y : Bool) → a && b && c && d && x && y ≡ true → (a ≡ true) × (b ≡ true) × (c ≡ true) × (d ≡ true) × (x ≡ true) × (y ≡ true)
-split6 a b c d x y e =
-    let g = and-left (a && b && c && d && x) y e in
-    let f = split4 a b c d (and-left (a && b && c && d) x g) in
-    (f .0, f .1, f .2, f .3, and-right (a && b && c && d) x g, and-right (a && b && c && d && x) y e)
-
 -- ---- ranges
 
-up-range : (n a b : ℕ) → upTo n (len b -ℤ len a) ≡ true → (b ≤ a + n) × (a ≤ b + n)
-up-range n a b e = abs-sub-range b a n (rw (len-minus b a) at (leb-true (natAbs (len b -ℤ len a)) n e))
+up-range : (n a b : ℕ) → natAbs (len b -ℤ len a) ≤ n → (b ≤ a + n) × (a ≤ b + n)
+up-range n a b h = abs-sub-range b a n (rw (len-minus b a) at h)
 
-up-zero : (n w : ℕ) → upTo n (len w) ≡ true → (w ≤ ORIGIN + n) × (ORIGIN ≤ w + n)
+up-zero : (n w : ℕ) → natAbs (len w) ≤ n → (w ≤ ORIGIN + n) × (ORIGIN ≤ w + n)
 unfolding len
-up-zero n w e = abs-sub-range w ORIGIN n (leb-true (natAbs (len w)) n e)
+up-zero n w h = abs-sub-range w ORIGIN n h
 
 one-range : (n w : ℕ) → from1To n (len w) ≡ true → (ORIGIN < w) × (w ≤ ORIGIN + n)
 unfolding len
@@ -53,39 +43,10 @@ one-range n w e =
     (≤-or-< w ORIGIN)
 
 within-at : (n : ℕ) (t l : List ℕ) (k m a : ℕ) → within n (tripleAt t k) (tripleAt l m) ≡ true → a < 3 → (getD l (m + a) 0 ≤ getD t (k + a) 0 + n) × (getD t (k + a) 0 ≤ getD l (m + a) 0 + n)
-unfolding within tripleAt
-within-at n t l k m a e h = go a h
-  where
-    ok : ℕ → ℕ → Bool
-    ok i j = upTo n (len (getD l i 0) -ℤ len (getD t j 0))
-
-    three : (ok m k ≡ true) × (ok (m + 1) (k + 1) ≡ true) × (ok (m + 2) (k + 2) ≡ true)
-    three = split3 (ok m k) (ok (m + 1) (k + 1)) (ok (m + 2) (k + 2)) e
-
-    go : (a : ℕ) → a < 3 → (getD l (m + a) 0 ≤ getD t (k + a) 0 + n) × (getD t (k + a) 0 ≤ getD l (m + a) 0 + n)
-    go zero h =
-        let i : m + 0 ≡ m = omega arith in
-        let j : k + 0 ≡ k = omega arith in
-        rw (i, j) (up-range n (getD t k 0) (getD l m 0) (three .0))
-    go (suc zero) h = up-range n (getD t (k + 1) 0) (getD l (m + 1) 0) (three .1)
-    go (suc (suc zero)) h = up-range n (getD t (k + 2) 0) (getD l (m + 2) 0) (three .2)
-    go (suc (suc (suc a))) h = absurd (omega arith)
+within-at n t l k m a e h = up-range n (getD t (k + a) 0) (getD l (m + a) 0) (rw (along-at l m a h, along-at t k a h) at (along-within n (axisOf a) (tripleAt t k) (tripleAt l m) e))
 
 earth-at : (t : List ℕ) (k a : ℕ) → onEarth (tripleAt t k) ≡ true → a < 3 → getD t (k + a) 0 ≤ ORIGIN + 100000000000
-unfolding onEarth tripleAt
-earth-at t k a e h = go a h
-  where
-    ok : ℕ → Bool
-    ok j = upTo 100000000000 (len (getD t j 0))
-
-    three : (ok k ≡ true) × (ok (k + 1) ≡ true) × (ok (k + 2) ≡ true)
-    three = split3 (ok k) (ok (k + 1)) (ok (k + 2)) e
-
-    go : (a : ℕ) → a < 3 → getD t (k + a) 0 ≤ ORIGIN + 100000000000
-    go zero h = let j : k + 0 ≡ k = omega arith in rw j (omega (arith, up-zero 100000000000 (getD t k 0) (three .0)))
-    go (suc zero) h = omega (arith, up-zero 100000000000 (getD t (k + 1) 0) (three .1))
-    go (suc (suc zero)) h = omega (arith, up-zero 100000000000 (getD t (k + 2) 0) (three .2))
-    go (suc (suc (suc a))) h = absurd (omega arith)
+earth-at t k a e h = up-zero 100000000000 (getD t (k + a) 0) (rw (along-at t k a h) at (along-earth (axisOf a) (tripleAt t k) e)) .0
 
 -- ---- places
 
@@ -121,63 +82,45 @@ module _ (t l : List ℕ) (range : inRange (termsOf t) ≡ true) (near : allNear
   reads p k = ap standing (place-at l p k) ∙ rw (not-zero p k)
 
   near-by : (p : ℕ) → p < PLACES → nearAt (termsOf t) p (spotAt l (p * 3)) ≡ true
-  near-by p k = subst (λ v. nearAt (termsOf t) p v ≡ true) (place-at l p k) (rw zero-add at (near-at (termsOf t) 0 (placesOf l) p near))
+  near-by p k = subst (λ v. nearAt (termsOf t) p v ≡ true) (place-at l p k) (near-there (termsOf t) (placesOf l) p near)
 
   nears : (p a : ℕ) → p < PLACES → a < 3 → (getD l (p * 3 + a) 0 ≤ getD t (6 + p % 2 * 3 + a) 0 + 100000) × (getD t (6 + p % 2 * 3 + a) 0 ≤ getD l (p * 3 + a) 0 + 100000)
   unfolding tripleAt
   nears p a k g = within-at 100000 t l (6 + p % 2 * 3) (p * 3) a (near-at-point t (x p) (y p) (h p) p ∙ spot-some (x p) (y p) (h p) (termsOf t) p (not-zero p k) ∙ near-by p k) g
 
-  abbrev w : ℕ → ℕ
-  w i = getD t i 0
-
-  abbrev one : ℕ → ℕ → Bool
-  one n i = from1To n (len (w i))
-
-  abbrev A : Bool
-  A = one 500000 0 && upTo 500000 (len (w 1)) && one 10000 2 && one 10000 3 && one 10000 4 && one 10000 5
-
-  abbrev B : Bool
-  B = onEarth (tripleAt t 6)
-
-  abbrev C : Bool
-  C = onEarth (tripleAt t 9)
-
-  abbrev D : Bool
-  D = within 500000 (tripleAt t 6) (tripleAt t 9)
-
-  four : (A ≡ true) × (B ≡ true) × (C ≡ true) × (D ≡ true)
-  unfolding inRange termsOf
-  four = split4 A B C D range
-
-  sixes : (one 500000 0 ≡ true) × (upTo 500000 (len (w 1)) ≡ true) × (one 10000 2 ≡ true) × (one 10000 3 ≡ true) × (one 10000 4 ≡ true) × (one 10000 5 ≡ true)
-  sixes = split6 (one 500000 0) (upTo 500000 (len (w 1))) (one 10000 2) (one 10000 3) (one 10000 4) (one 10000 5) (four .0)
+  terms : Ranged (termsOf t)
+  terms = ranged (termsOf t) range
 
   points : (a : ℕ) → a < 6 → getD t (6 + a) 0 ≤ ORIGIN + 100000000000
+  unfolding termsOf
   points a h =
       ⊎-elim
-      (λ (g : 3 ≤ a). let j : 9 + (a - 3) ≡ 6 + a = omega arith in subst (λ (k : ℕ). getD t k 0 ≤ ORIGIN + 100000000000) j (earth-at t 9 (a - 3) (four .2) (omega arith)))
-      (λ (g : a < 3). earth-at t 6 a (four .1) g)
+      (λ (g : 3 ≤ a). let j : 9 + (a - 3) ≡ 6 + a = omega arith in subst (λ (k : ℕ). getD t k 0 ≤ ORIGIN + 100000000000) j (earth-at t 9 (a - 3) (terms .point2) (omega arith)))
+      (λ (g : a < 3). earth-at t 6 a (terms .point1) g)
       (≤-or-< a 3)
 
   sized : (i : ℕ) → 2 ≤ i → i < 6 → Between (ORIGIN + 1) (ORIGIN + 10000) (getD t i 0)
+  unfolding termsOf
   sized zero h g = absurd (omega arith)
   sized (suc zero) h g = absurd (omega arith)
-  sized (suc (suc zero)) h g = one-range 10000 (getD t 2 0) (sixes .2)
-  sized (suc (suc (suc zero))) h g = one-range 10000 (getD t 3 0) (sixes .3)
-  sized (suc (suc (suc (suc zero)))) h g = one-range 10000 (getD t 4 0) (sixes .4)
-  sized (suc (suc (suc (suc (suc zero))))) h g = one-range 10000 (getD t 5 0) (sixes .5)
+  sized (suc (suc zero)) h g = one-range 10000 (getD t 2 0) (terms .screenXY)
+  sized (suc (suc (suc zero))) h g = one-range 10000 (getD t 3 0) (terms .screenH)
+  sized (suc (suc (suc (suc zero)))) h g = one-range 10000 (getD t 4 0) (terms .sigmaXY)
+  sized (suc (suc (suc (suc (suc zero))))) h g = one-range 10000 (getD t 5 0) (terms .sigmaH)
   sized (suc (suc (suc (suc (suc (suc i)))))) h g = absurd (omega arith)
 
   heights : Between (ORIGIN - 500000) (ORIGIN + 500000) (getD t 1 0)
-  heights = let k = up-zero 500000 (getD t 1 0) (sixes .1) in (omega arith, omega arith)
+  unfolding termsOf
+  heights = let k = up-zero 500000 (getD t 1 0) (leb-true _ 500000 (terms .height)) in (omega arith, omega arith)
 
   pub ready : Ready t l
+  unfolding termsOf
   ready = record {
     reads = reads;
     near = nears;
     points = points;
-    apart = λ a h. within-at 500000 t t 6 9 a (four .3) h;
-    distance = one-range 500000 (getD t 0 0) (sixes .0);
+    apart = λ a h. within-at 500000 t t 6 9 a (terms .apart) h;
+    distance = one-range 500000 (getD t 0 0) (terms .distance);
     height = heights;
     scales = sized;
   }

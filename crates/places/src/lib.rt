@@ -10,6 +10,7 @@ ghost use Rattle.paper.specs.TurnedAway.{some?};
 ghost use Rattle.image.specs.Lengths.{termsOf};
 ghost use Rattle.image.specs.Places.{allZero, spotAt, placesOf};
 ghost use Rattle.places.specs.Marks.{Marks};
+use image::Layout;
 use procedure::Procedure;
 
 // Three words that hold no reading.
@@ -19,18 +20,18 @@ pub fn all_zero(x: u64, y: u64, h: u64) -> bool
     (x == 0) & ((y == 0) & (h == 0))
 }
 
-// 0 for three words that hold no reading, 1 for others.
-pub fn mark(x: u64, y: u64, h: u64) -> u64
-    ensures { λ r. ⌜ eqb r 0 ≡ allZero x y h ⌝ }
+// The mark of a place: 0 for an empty one, 1 for others.
+pub fn mark(empty: bool) -> u64
+    ensures { λ r. ⌜ eqb r 0 ≡ empty ⌝ }
 {
-    if all_zero(x, y, h) {
+    if empty {
         return 0;
     }
     1
 }
 
 // The place is empty.
-pub fn empty_at(cells: &[u64; 90], place: usize) -> bool
+pub fn empty_at(cells: &[u64; Layout::CELLS], place: usize) -> bool
     requires { ⌜ place < PLACES ⌝ }
     ensures { λ r. ⌜ r ≡ isEmpty (spotAt (now (cells .entry)) (place * 3)) ⌝ }
 {
@@ -39,16 +40,15 @@ pub fn empty_at(cells: &[u64; 90], place: usize) -> bool
 }
 
 // The mark of what stands at a place.
-fn mark_at(cells: &[u64; 90], place: usize) -> u64
+fn mark_at(cells: &[u64; Layout::CELLS], place: usize) -> u64
     requires { ⌜ place < PLACES ⌝ }
     ensures { λ r. ⌜ eqb r 0 ≡ isEmpty (spotAt (now (cells .entry)) (place * 3)) ⌝ }
 {
-    let m = place * 3;
-    mark(cells[m], cells[m + 1], cells[m + 2])
+    mark(empty_at(cells, place))
 }
 
 // Nothing at the place, or a reading near its point.
-fn near_at(t: &[u64; 12], cells: &[u64; 90], place: usize) -> bool
+fn near_at(t: &[u64; Layout::TERMS], cells: &[u64; Layout::CELLS], place: usize) -> bool
     requires { ⌜ place < PLACES ⌝ }
     ensures { λ r. ⌜ r ≡ nearAt (termsOf (now (t .entry))) place (spotAt (now (cells .entry)) (place * 3)) ⌝ }
 {
@@ -58,7 +58,7 @@ fn near_at(t: &[u64; 12], cells: &[u64; 90], place: usize) -> bool
 
 // Every reading near its point, and of each place its mark. A turn takes both points of a set, so that the compiler knows which of them it
 // has at hand.
-pub fn survey(t: &[u64; 12], cells: &[u64; 90], marks: &mut [u64]) -> bool
+pub fn survey(t: &[u64; Layout::TERMS], cells: &[u64; Layout::CELLS], marks: &mut [u64]) -> bool
     requires { ⌜ length (now marks) ≡ 30 ⌝ }
     ensures { λ r. ⌜ (r ≡ allNear (termsOf (now (t .entry))) 0 (placesOf (now (cells .entry)))) × Marks (now (marks .exit)) (placesOf (now (cells .entry))) ⌝ }
 {
@@ -75,7 +75,7 @@ pub fn survey(t: &[u64; 12], cells: &[u64; 90], marks: &mut [u64]) -> bool
 }
 
 // Every reading near its point.
-pub fn all_near(t: &[u64; 12], cells: &[u64; 90]) -> bool
+pub fn all_near(t: &[u64; Layout::TERMS], cells: &[u64; Layout::CELLS]) -> bool
     ensures { λ r. ⌜ r ≡ allNear (termsOf (now (t .entry))) 0 (placesOf (now (cells .entry))) ⌝ }
 {
     let mut marks = [0u64; 30];
@@ -83,7 +83,7 @@ pub fn all_near(t: &[u64; 12], cells: &[u64; 90]) -> bool
 }
 
 // A place is empty.
-pub fn any_empty(cells: &[u64; 90]) -> bool
+pub fn any_empty(cells: &[u64; Layout::CELLS]) -> bool
     ensures { λ r. ⌜ r ≡ some? isEmpty (placesOf (now (cells .entry))) ⌝ }
 {
     let mut p: usize = 0;

@@ -5,9 +5,10 @@ ghost use Prim.Native.Nat.{_*_, _<_};
 ghost use lib.ListN.{getD};
 ghost use Rattle.paper.specs.Procedure.{PLACES};
 ghost use Rattle.words.specs.Paste.{pasted};
+use image::Layout;
 
 // The places with three words at one of them.
-pub fn put(old: [u64; 90], place: usize, x: u64, y: u64, h: u64) -> [u64; 90]
+pub fn put(old: [u64; Layout::CELLS], place: usize, x: u64, y: u64, h: u64) -> [u64; Layout::CELLS]
     requires { ⌜ place < PLACES ⌝ }
     ensures { λ r. ⌜ r ≡ pasted old (place * 3) (x ∷ y ∷ h ∷ []) ⌝ }
 {
@@ -20,7 +21,10 @@ pub fn put(old: [u64; 90], place: usize, x: u64, y: u64, h: u64) -> [u64; 90]
 }
 
 // The places with the latest kept change taken back.
-pub fn take_back(cells: [u64; 90], changes: &[u64; 128]) -> [u64; 90]
+pub fn take_back(
+    cells: [u64; Layout::CELLS],
+    changes: &[u64; Layout::CHANGES],
+) -> [u64; Layout::CELLS]
     requires { ⌜ getD (now changes) 0 0 < PLACES ⌝ }
     ensures { λ r. ⌜ r ≡ pasted cells (getD (now (changes .entry)) 0 0 * 3) (getD (now (changes .entry)) 1 0 ∷ getD (now (changes .entry)) 2 0 ∷ getD (now (changes .entry)) 3 0 ∷ []) ⌝ }
 {

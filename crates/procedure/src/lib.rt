@@ -1,5 +1,6 @@
-// The numbers of the procedure and of the refusals, as constants of the code.
+// The numbers of the procedure and of the refusals, as constants of the code; and the test of a number that counts from 1.
 ghost use mathlib.Core.Path.{_≡_};
+ghost use Rattle.paper.specs.Units.{oneTo};
 ghost use Rattle.procedure.specs.Constants.{numbers, refusals};
 
 pub struct Procedure;
@@ -123,4 +124,11 @@ pub fn refusal_constants() -> Refusals
         room: Refusal::ROOM,
         form: Refusal::FORM,
     }
+}
+
+// Whether k is one of 1 to n.
+pub fn one_to(n: u64, k: u64) -> bool
+    ensures { λ r. ⌜ r ≡ oneTo n k ⌝ }
+{
+    (1 <= k) & (k <= n)
 }

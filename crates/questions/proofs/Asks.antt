@@ -18,7 +18,7 @@ use Rattle.book.specs.Meaning.{openOf, bookForm, seen}
 use Rattle.book.specs.Steps.{aimOf}
 use Rattle.readings.specs.Answers.{lengthsBy, lengthsOf}
 use Rattle.book.proofs.Meaning.{meant-closed, meant-open, seen-in, seen-out}
-use Rattle.book.proofs.Steps.{On, aim-on}
+use Rattle.book.proofs.Sought.{On, aim-on}
 use Rattle.readings.proofs.Asks.{asked-refused}
 use Rattle.sums.specs.Places.{placeAt}
 use Rattle.sums.proofs.Places.{place-back}

@@ -17,11 +17,12 @@ ghost use Rattle.doubles.specs.Doubles.{doubled};
 use book::Book;
 use doubles::Evaluated;
 use evaluation::Judgement;
+use image::Layout;
 use procedure::Refusal;
 use readings::Lengths;
 
 // 15·r along x, y and h at a place of a full book, counted from 0 in sheet order.
-fn residuals(terms: &[u64; 12], cells: &[u64; 90], place: usize) -> Lengths
+fn residuals(terms: &[u64; Layout::TERMS], cells: &[u64; Layout::CELLS], place: usize) -> Lengths
     requires { ⌜ (place < PLACES) × Ready (now terms) (now cells) ⌝ }
     ensures { λ r. ⌜ r ≡ lengthsBy 0 (residualAt (placeAt place) (some (sightOf (now (terms .entry)) (now (cells .entry))))) ⌝ }
 {

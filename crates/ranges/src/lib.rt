@@ -6,11 +6,12 @@ ghost use Prim.Native.Nat.{_≤_};
 ghost use lib.IntN.{_-ℤ_};
 ghost use Rattle.paper.specs.Units.{from1To, upTo, onEarth, within, inRange, near, pointOf};
 ghost use Rattle.image.specs.Lengths.{ORIGIN, len, triple, tripleAt, termsOf};
+use image::Layout;
 use image::ORIGIN;
 use procedure::Procedure;
 
 // A length from 1 to n.
-fn one_to(n: u64, w: u64) -> bool
+fn from_1_to(n: u64, w: u64) -> bool
     requires { ⌜ n ≤ ORIGIN ⌝ }
     ensures { λ r. ⌜ r ≡ from1To n (len w) ⌝ }
 {
@@ -35,7 +36,7 @@ fn around(n: u64, ax: u64, ay: u64, ah: u64, x: u64, y: u64, h: u64) -> bool
 }
 
 // The approximate values of the two points, and how far these are apart.
-fn points_ok(t: &[u64; 12]) -> bool
+fn points_ok(t: &[u64; Layout::TERMS]) -> bool
     ensures { λ r. ⌜ r ≡ (onEarth (tripleAt (now (t .entry)) 6) && onEarth (tripleAt (now (t .entry)) 9) && within 500000 (tripleAt (now (t .entry)) 6) (tripleAt (now (t .entry)) 9)) ⌝ }
 {
     let x = t[6];
@@ -50,20 +51,20 @@ fn points_ok(t: &[u64; 12]) -> bool
 }
 
 // Every term in its range.
-pub fn in_range(t: &[u64; 12]) -> bool
+pub fn in_range(t: &[u64; Layout::TERMS]) -> bool
     ensures { λ r. ⌜ r ≡ inRange (termsOf (now (t .entry))) ⌝ }
 {
-    one_to(500000, t[0])
+    from_1_to(500000, t[0])
         & close(500000, ORIGIN, t[1])
-        & one_to(10000, t[2])
-        & one_to(10000, t[3])
-        & one_to(10000, t[4])
-        & one_to(10000, t[5])
+        & from_1_to(10000, t[2])
+        & from_1_to(10000, t[3])
+        & from_1_to(10000, t[4])
+        & from_1_to(10000, t[5])
         & points_ok(t)
 }
 
 // A reading near its point, for the place with that number.
-pub fn near(t: &[u64; 12], place: usize, x: u64, y: u64, h: u64) -> bool
+pub fn near(t: &[u64; Layout::TERMS], place: usize, x: u64, y: u64, h: u64) -> bool
     ensures { λ r. ⌜ r ≡ near (termsOf (now (t .entry))) (pointOf place) (triple x y h) ⌝ }
 {
     let k = 6 + place % Procedure::POINTS * 3;

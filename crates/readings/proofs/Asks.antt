@@ -2,7 +2,6 @@
 -- Assumes nothing.
 use Prim.Native.Nat.{ℕ, _+_, _*_, _<_}
 use native.Mathlib.Omega.{arith}
-use native.Mathlib.Nat.{zero-add}
 use mathlib.Core.Path.{_≡_, refl, sym, ap, _∙_, subst}
 use mathlib.Core.Bool.{Bool, true, false, cond}
 use mathlib.Core.Option.{none}
@@ -18,7 +17,7 @@ use Rattle.paper.specs.TurnedAway.{Rule, lowest, questioned, empty}
 use Rattle.paper.specs.Answers.{lengths, given, beside, says}
 use Rattle.paper.specs.Alone.{askedAlone}
 use Rattle.paper.proofs.Form.{parts}
-use Rattle.paper.proofs.History.{near-at}
+use Rattle.paper.proofs.Stays.{near-there}
 use Rattle.image.specs.Lengths.{ORIGIN, triple, termsOf}
 use Rattle.image.specs.Places.{allZero, spotOf, spotAt, placesOf}
 use Rattle.image.proofs.Places.{place-at, empty-spot}
@@ -28,7 +27,8 @@ use Rattle.book.specs.declared.Aim.{Aim}
 use Rattle.book.specs.Meaning.{openOf, bookForm, seen}
 use Rattle.book.specs.Steps.{aim, aimOf, soughtOf}
 use Rattle.book.proofs.Meaning.{Sized, form-sound, meant-closed, meant-open, seen-in, seen-out}
-use Rattle.book.proofs.Steps.{sightO, On, placed, Sought, before, there, place-small, sought-way, sought-on, spot-there, empty-is, ranged, kept-count}
+use Rattle.book.proofs.Steps.{sightO, ranged, kept-count}
+use Rattle.book.proofs.Sought.{On, placed, Sought, before, there, place-small, sought-way, sought-on, spot-there, empty-is}
 use Rattle.readings.specs.declared.Lengths.{Lengths}
 use Rattle.readings.specs.Answers.{lengthsBy, lengthsOf, countBy, countOf}
 
@@ -73,7 +73,7 @@ module _ (b : Book) (s : Sized b) (p : Place) (q : ℕ) (o : On b p q) where
   unfolding openOf
   read-bound e =
       let g = form-sound b (o .form) (o .opened) in
-      let n : nearAt (termsOf (b .terms)) q (getD (placesOf (b .cells)) q none) ≡ true = rw zero-add at (near-at (termsOf (b .terms)) 0 (placesOf (b .cells)) q (parts (openOf b) (g .formed) .close)) in
+      let n : nearAt (termsOf (b .terms)) q (getD (placesOf (b .cells)) q none) ≡ true = near-there (termsOf (b .terms)) (placesOf (b .cells)) q (parts (openOf b) (g .formed) .close) in
       let m : nearAt (termsOf (b .terms)) q (spotAt (b .cells) (q * 3)) ≡ true = subst (λ (v : Spot). nearAt (termsOf (b .terms)) q v ≡ true) (place-at (b .cells) q (place-small b s p q o)) n in
       full-bound x y h (full e) (spot-short (termsOf (b .terms)) q (spotAt (b .cells) (q * 3)) (ranged b s g) m)
 

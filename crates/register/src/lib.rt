@@ -6,7 +6,7 @@ ghost use Rattle.readings.specs.Answers.{countOf};
 ghost use Rattle.lent.specs.Image.{LENGTH};
 ghost use Rattle.lent.specs.Calls.{called, Calls};
 ghost use Rattle.register.specs.Answers.{checked, listAfter};
-use lent::Layout;
+use image::Layout;
 use procedure::Refusal;
 use readings::Count;
 

@@ -5,6 +5,7 @@ ghost use Rattle.image.specs.Lengths.{termsOf};
 ghost use Rattle.image.specs.Places.{placesOf};
 ghost use Rattle.image.specs.Ready.{Ready};
 ghost use Rattle.screen.specs.Named.{foundOf};
+use image::Layout;
 use procedure::Procedure;
 
 // Where s_xy stands among the terms.
@@ -17,7 +18,7 @@ pub enum Found {
 }
 
 // The first suspect set in the order of the field sheet, distance before height in a set.
-pub fn first_suspect(terms: &[u64; 12], cells: &[u64; 90]) -> Found
+pub fn first_suspect(terms: &[u64; Layout::TERMS], cells: &[u64; Layout::CELLS]) -> Found
     requires { ⌜ Ready (now terms) (now cells) ⌝ }
     ensures { λ r. ⌜ r ≡ foundOf (firstSuspect (termsOf (now (terms .entry))) (placesOf (now (cells .entry)))) ⌝ }
 {

@@ -8,6 +8,7 @@ ghost use Rattle.image.specs.Places.{placesOf};
 ghost use Rattle.image.specs.Ready.{Ready};
 ghost use Rattle.limits.specs.Most.{mostPassing};
 ghost use Rattle.sets.specs.Words.{wordsFrom, Near, qOf, distance, height};
+use image::Layout;
 use image::ORIGIN;
 use procedure::Procedure;
 
@@ -27,7 +28,7 @@ fn words_from(series: usize, set: usize) -> usize
 }
 
 // q of the set whose words start at m.
-fn q_from(cells: &[u64; 90], m: usize) -> u64
+fn q_from(cells: &[u64; Layout::CELLS], m: usize) -> u64
     requires { ⌜ (m + 5 < 90) × Near (now cells) m 0 × Near (now cells) m 1 ⌝ }
     ensures { λ r. ⌜ r ≡ qOf (now (cells .entry)) m ⌝ }
 {
@@ -38,8 +39,8 @@ fn q_from(cells: &[u64; 90], m: usize) -> u64
 
 // Whether the distance of a set is suspect: further from D* than the greatest difference that passes.
 pub fn distance_suspect(
-    terms: &[u64; 12],
-    cells: &[u64; 90],
+    terms: &[u64; Layout::TERMS],
+    cells: &[u64; Layout::CELLS],
     series: usize,
     set: usize,
     most: u64,
@@ -53,7 +54,12 @@ pub fn distance_suspect(
 }
 
 // Whether the height of a set is suspect.
-pub fn height_suspect(terms: &[u64; 12], cells: &[u64; 90], series: usize, set: usize) -> bool
+pub fn height_suspect(
+    terms: &[u64; Layout::TERMS],
+    cells: &[u64; Layout::CELLS],
+    series: usize,
+    set: usize,
+) -> bool
     requires { ⌜ (1 ≤ series) × (series ≤ SERIES) × (1 ≤ set) × (set ≤ SETS) × Ready (now terms) (now cells) ⌝ }
     ensures { λ r. ⌜ r ≡ suspicious (termsOf (now (terms .entry))) (placesOf (now (cells .entry))) (height series set) ⌝ }
 {

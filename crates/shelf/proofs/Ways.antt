@@ -1,6 +1,6 @@
 -- The ways to find a book and to put one back.
 -- Assumes nothing.
-use Prim.Native.Nat.{ℕ, zero, suc, _-_, _*_, _≤_}
+use Prim.Native.Nat.{ℕ, _-_, _*_, _≤_}
 use native.Mathlib.Omega.{arith}
 use mathlib.Core.Path.{_≡_, refl, sym, ap, _∙_}
 use mathlib.Core.Bool.{Bool, true, false, cond, _&&_, and-comm, and-assoc, and-true}
@@ -14,11 +14,11 @@ use Rattle.paper.specs.Units.{oneTo}
 use Rattle.paper.specs.Books as paper
 use Rattle.paper.specs.Answers.{unless}
 use Rattle.paper.proofs.Tests.{among}
-use Rattle.image.specs.Changes.{zeros}
+use Rattle.paper.proofs.Acts.{unless-refused}
 use Rattle.book.specs.declared.Book.{Book}
-use Rattle.form.specs.Whole.{blank, wordsForm}
+use Rattle.form.specs.Whole.{wordsForm}
 use Rattle.book.specs.Meaning.{bookOf, meant, bookForm, seen}
-use Rattle.book.proofs.Meaning.{seen-in}
+use Rattle.book.proofs.Meaning.{form-image, seen-in, seen-out, seen-image}
 use Rattle.stored.specs.Image.{BOOK, bookAt}
 use Rattle.lent.specs.Image.{LENGTH, formFrom, meantFrom, inForm, formBetween}
 use Rattle.shelf.specs.Steps.{pickedOf, othersForm, unformed, foundOf, turnedAway}
@@ -41,17 +41,9 @@ pub data Way (bs : List ℕ) (k : ℕ) (b : Book) : Type 0 where
   within : inForm bs ≡ true → Within bs k b → Way bs k b
   without : inForm bs ≡ false → seen b ≡ none → Way bs k b
 
-closed-form : bookForm (bookOf none) ≡ true
-unfolding bookForm wordsForm blank bookOf zeros
-closed-form = refl
-
 unformed-is : (b : Book) → bookForm (unformed b) ≡ false
 unfolding bookForm wordsForm
 unformed-is b = refl
-
-not-seen : (b : Book) → bookForm b ≡ false → seen b ≡ none
-unfolding seen
-not-seen b e = rw e
 
 module _ (bs : List ℕ) (k : ℕ) where
   abbrev standing : Book
@@ -82,7 +74,7 @@ module _ (bs : List ℕ) (k : ℕ) where
           && bookForm (cond (i && j) standing (bookOf none))
       go false true v = refl
       go false false v = refl
-      go true false v = rw closed-form (sym (and-true (formFrom BOOKS bs)))
+      go true false v = rw (form-image none refl) (sym (and-true (formFrom BOOKS bs)))
       go true true v =
           let h = among BOOKS k v in
           let e : k - 1 - 0 ≡ k - 1 = omega arith in
@@ -94,8 +86,8 @@ module _ (bs : List ℕ) (k : ℕ) where
     where
       go : (o i : Bool) → inForm bs ≡ i → inForm bs ≡ o && bookForm (pickedOf bs k) → b ≡ cond o (pickedOf bs k) (unformed (pickedOf bs k)) → Way bs k b
       go true true u f w = within u (picked-way b w u)
-      go true false u f w = without u (not-seen b (ap bookForm w ∙ sym f ∙ u))
-      go false i u f w = without f (not-seen b (ap bookForm w ∙ unformed-is (pickedOf bs k)))
+      go true false u f w = without u (seen-out b (ap bookForm w ∙ sym f ∙ u))
+      go false i u f w = without f (seen-out b (ap bookForm w ∙ unformed-is (pickedOf bs k)))
 
   range : (b : Book) → Found bs k b → (1 ≤ k) × (k ≤ BOOKS)
   range b f = among BOOKS k (f .among)
@@ -109,14 +101,10 @@ module _ (bs : List ℕ) (k : ℕ) where
   pub found-meant : (b : Book) → Found bs k b → paper.book (meantFrom BOOKS bs) k ≡ meant b
   found-meant b f = book-at bs k (range b f .0) (range b f .1) ∙ ap meant (sym (f .there))
 
-pub closed-seen : seen (bookOf none) ≡ some none
-unfolding seen bookForm wordsForm blank meant bookOf zeros
-closed-seen = refl
-
 pub within-seen : (bs : List ℕ) (k : ℕ) (b : Book) → Within bs k b → seen b ≡ some (meant b)
 unfolding meant bookOf
 within-seen bs k b (found f) = found-seen bs k b f
-within-seen bs k b (elsewhere e w) = rw (w, closed-seen)
+within-seen bs k b (elsewhere e w) = rw (w, seen-image none refl)
 
 -- ---- turned away
 
@@ -143,8 +131,7 @@ module _ (k : ℕ) where
 
 -- nothing is written beside a refusal
 pub kept-back : (n r : ℕ) (new old : List ℕ) → r ≡ n → (r ≡ 0 → ⊥) → (r ≡ n) × (old ≡ unless n new old)
-kept-back zero r new old e h = absurd (h e)
-kept-back (suc n) r new old e h = (e, refl)
+kept-back n r new old e h = (e, sym (unless-refused n new old (λ z. h (e ∙ z))))
 
 pub written : (n r : ℕ) (new old bs : List ℕ) → r ≡ n → r ≡ 0 → bs ≡ new → (0 ≡ n) × (bs ≡ unless n new old)
 written n r new old bs e z w = let m : n ≡ 0 = sym e ∙ z in (sym m, rw (m, w))

@@ -8,7 +8,7 @@ ghost use Rattle.lent.specs.Image.{LENGTH};
 ghost use Rattle.shelf.specs.Steps.{pickedOf, othersForm, foundOf, turnedAway, placedAt};
 use book::Book;
 use book::Step;
-use lent::Layout;
+use image::Layout;
 use procedure::Procedure;
 use procedure::Refusal;
 
@@ -16,10 +16,7 @@ use procedure::Refusal;
 pub fn is_book(book: u64) -> bool
     ensures { λ r. ⌜ r ≡ oneTo BOOKS book ⌝ }
 {
-    if book < 1 {
-        return false;
-    }
-    book <= Procedure::BOOKS as u64
+    procedure::one_to(Procedure::BOOKS as u64, book)
 }
 
 // The book of that number, in form or not; a closed one where the bytes have none.

@@ -1,13 +1,12 @@
 -- The reader of a place, step by step, as the code goes.
 -- Assumes nothing.
-use Prim.Native.Nat.{ℕ, suc, _+_, _-_, _≤_}
+use Prim.Native.Nat.{ℕ, suc, _-_, _≤_}
 use mathlib.Core.Path.{_≡_, refl, sym, _∙_, ap}
 use mathlib.Core.Option.{none, some}
 use mathlib.Core.List.{List, [], _∷_, map}
 use native.Mathlib.Omega.{arith}
-use lib.ListN.{length, drop, set}
+use lib.ListN.{length, drop}
 use Rattle.words.specs.Paste.{pasted}
-use Rattle.words.proofs.Paste.{pasted-nil}
 use Rattle.paper.specs.Units.{Triple}
 use Rattle.image.specs.Lengths.{word, tripleWords}
 use Rattle.image.specs.Places.{spotWords}
@@ -16,7 +15,6 @@ use Rattle.decimals.specs.Given.{Got, Gives, Nothing, Laid}
 use Rattle.decimals.specs.declared.Read.the-variants.{At}
 use Rattle.decimals.proofs.Steps.{then-got, then-bad, yes-at}
 use Rattle.decimals.proofs.Exact.{numbers-only}
-use Rattle.lines.proofs.Rows.{pasted-set}
 use Rattle.fieldfile.specs.Reader.{tag, tripleFrom, placed, spot}
 use Rattle.fieldfile.proofs.Lists.{triple-from}
 use Rattle.spots.specs.Given.{Placed}
@@ -24,12 +22,6 @@ use Rattle.spots.specs.Given.{Placed}
 spot-words : (v : Triple) → spotWords (some v) ≡ map word (v .x ∷ v .y ∷ v .h ∷ [])
 unfolding spotWords tripleWords
 spot-words v = refl
-
-pub three-set : (r : List ℕ) (b x y z : ℕ) → b + 3 ≤ length r → set (set (set r b x) (b + 1) y) (b + 2) z ≡ pasted r b (x ∷ y ∷ z ∷ [])
-three-set r b x y z h =
-    let e : set r b x ≡ pasted r b (x ∷ []) = rw (pasted-nil r b) at (pasted-set r b [] b x (omega arith) (omega arith)) in
-    let f : set (pasted r b (x ∷ [])) (b + 1) y ≡ pasted r b (x ∷ y ∷ []) = pasted-set r b (x ∷ []) (b + 1) y (omega arith) (omega arith) in
-    rw (e, f) (pasted-set r b (x ∷ y ∷ []) (b + 2) z (omega arith) (omega arith))
 
 module _ (s : List ℕ) (at k left : ℕ) (cells : List ℕ) (base : ℕ) (last : List ℕ) where
   empty : (m : ℕ) → at ≤ length s → last ≡ pasted cells base (0 ∷ 0 ∷ 0 ∷ []) → spot k left (drop at s) ≡ got (none, m) (drop at s)

@@ -23,13 +23,13 @@ use Rattle.standing.proofs.Marked.{fits-marked, marks-put}
 -- ---- the kept changes from j on, where l is what stands at the places then
 
 module _ (t : Terms) (ch : List ℕ) (n : ℕ) where
-  abbrev pub takeableFrom : Places → ℕ → Bool
+  abbrev takeableFrom : Places → ℕ → Bool
   takeableFrom l j = takeable t l (entries (n - j) (drop (j * 4) ch))
 
-  abbrev pub changeAt : ℕ → Change
+  abbrev changeAt : ℕ → Change
   changeAt j = change (getD ch (j * 4) 0) (spotOf (getD ch (j * 4 + 1) 0) (getD ch (j * 4 + 2) 0) (getD ch (j * 4 + 3) 0))
 
-  pub takeable-start : (l : Places) → takeable t l (entries n ch) ≡ takeableFrom l 0
+  takeable-start : (l : Places) → takeable t l (entries n ch) ≡ takeableFrom l 0
   takeable-start l = let e : n - 0 ≡ n = omega arith in rw e
 
   entries-turn : (j : ℕ) → j < n → entries (n - j) (drop (j * 4) ch) ≡ changeAt j ∷ entries (n - (j + 1)) (drop ((j + 1) * 4) ch)
@@ -40,15 +40,15 @@ module _ (t : Terms) (ch : List ℕ) (n : ℕ) where
       let z : j * 4 + 0 ≡ j * 4 = omega arith in
       rw (e, getD-drop (j * 4) ch 0 0, getD-drop (j * 4) ch 1 0, getD-drop (j * 4) ch 2 0, getD-drop (j * 4) ch 3 0, drop-drop 4 (j * 4) ch, f, z)
 
-  pub takeable-on : (l : Places) (j : ℕ) → j < n → fits t l (changeAt j) ≡ true → takeableFrom l j ≡ takeableFrom (make (changeAt j) l) (j + 1)
+  takeable-on : (l : Places) (j : ℕ) → j < n → fits t l (changeAt j) ≡ true → takeableFrom l j ≡ takeableFrom (make (changeAt j) l) (j + 1)
   unfolding takeable
   takeable-on l j h e = rw (entries-turn j h, e)
 
-  pub takeable-stop : (l : Places) (j : ℕ) → j < n → fits t l (changeAt j) ≡ false → takeableFrom l j ≡ false
+  takeable-stop : (l : Places) (j : ℕ) → j < n → fits t l (changeAt j) ≡ false → takeableFrom l j ≡ false
   unfolding takeable
   takeable-stop l j h e = rw (entries-turn j h, e)
 
-  pub takeable-end : (l : Places) (j : ℕ) → n ≤ j → takeableFrom l j ≡ true
+  takeable-end : (l : Places) (j : ℕ) → n ≤ j → takeableFrom l j ≡ true
   unfolding takeable entries
   takeable-end l j h = let e : n - j ≡ 0 = omega arith in rw e
 

@@ -9,10 +9,18 @@ ghost use Rattle.image.specs.Lengths.{termsOf};
 ghost use Rattle.image.specs.Places.{placesOf};
 ghost use Rattle.image.specs.Changes.{entries};
 ghost use Rattle.standing.specs.Marked.{fitsMarked};
+use image::Layout;
 use procedure::Procedure;
 
 // A change that can be taken back from places with these marks.
-fn change_ok(t: &[u64; 12], marks: &[u64; 30], place: u64, x: u64, y: u64, h: u64) -> bool
+fn change_ok(
+    t: &[u64; Layout::TERMS],
+    marks: &[u64; 30],
+    place: u64,
+    x: u64,
+    y: u64,
+    h: u64,
+) -> bool
     ensures { λ r. ⌜ r ≡ fitsMarked (termsOf (now (t .entry))) (now (marks .entry)) place x y h ⌝ }
 {
     if place >= Procedure::PLACES as u64 {
@@ -28,7 +36,12 @@ fn change_ok(t: &[u64; 12], marks: &[u64; 30], place: u64, x: u64, y: u64, h: u6
 
 // Every reading is near its point, and the kept changes can be taken back one after another from these places. Of what stands at a place
 // taking back asks no more than its mark, so that no place has to be copied.
-pub fn all_stand(t: &[u64; 12], cells: &[u64; 90], kept: u64, changes: &[u64; 128]) -> bool
+pub fn all_stand(
+    t: &[u64; Layout::TERMS],
+    cells: &[u64; Layout::CELLS],
+    kept: u64,
+    changes: &[u64; Layout::CHANGES],
+) -> bool
     requires { ⌜ kept ≤ KEPT ⌝ }
     ensures { λ r. ⌜ r ≡ (allNear (termsOf (now (t .entry))) 0 (placesOf (now (cells .entry))) && takeable (termsOf (now (t .entry))) (placesOf (now (cells .entry))) (entries kept (now (changes .entry)))) ⌝ }
 {
@@ -43,7 +56,7 @@ pub fn all_stand(t: &[u64; 12], cells: &[u64; 90], kept: u64, changes: &[u64; 12
         let y = changes[i + 2];
         let h = changes[i + 3];
         if change_ok(t, &marks, p, x, y, h) {
-            marks[p as usize] = places::mark(x, y, h);
+            marks[p as usize] = places::mark(places::all_zero(x, y, h));
             j += 1;
         } else {
             return false;

@@ -14,7 +14,7 @@ use Rattle.paper.specs.Form.{formedO}
 use Rattle.paper.proofs.Form.{parts}
 use Rattle.words.specs.Words.{le, words, digits, bytesOf}
 use Rattle.words.specs.Paste.{pasted}
-use Rattle.words.proofs.Words.{length-words, length-bytesOf, bytesOf-words, words-add}
+use Rattle.words.proofs.Words.{below-take, length-words, length-bytesOf, bytesOf-words, words-add}
 use Rattle.words.proofs.Paste.{words-take}
 use Rattle.image.proofs.Bounds.{Small, small-nil, small-cons, small-terms, small-cells, small-changes, places-short}
 use Rattle.book.specs.declared.Book.{Book}
@@ -49,16 +49,10 @@ words-book bs =
     let d₃ : words 129 (drop 824 bs) ≡ words 1 (drop 824 bs) ++ words 128 (drop 832 bs) = words-add 1 128 (drop 824 bs) ∙ ap (λ (l : List ℕ). words 1 (drop 824 bs) ++ words 128 l) (drop-drop 8 824 bs) in
     sym (words-add 1 231 bs ∙ rw (d₁, d₂, d₃, one bs, one (drop 824 bs)) (simp append-assoc))
 
-bytes-take : (n : ℕ) (l : List ℕ) → Bytes l → Bytes (take n l)
-bytes-take zero l h i = omega arith
-bytes-take (suc n) [] h i = omega arith
-bytes-take (suc n) (b ∷ l) h zero = h 0
-bytes-take (suc n) (b ∷ l) h (suc i) = bytes-take n l (λ j. h (suc j)) i
-
 pub bytes-book : (bs : List ℕ) → BOOK ≤ length bs → Bytes bs → bytesOf (wordsOf (bookAt bs 0)) ≡ take BOOK bs
 bytes-book bs h y =
     let l : length (take BOOK bs) ≡ 8 * 232 = length-take-le BOOK bs h in
-    ap bytesOf (words-book bs ∙ sym (words-take 232 bs)) ∙ bytesOf-words 232 (take BOOK bs) l (bytes-take BOOK bs y)
+    ap bytesOf (words-book bs ∙ sym (words-take 232 bs)) ∙ bytesOf-words 232 (take BOOK bs) l (below-take BOOK bs y)
 
 -- ---- book to bytes to book
 

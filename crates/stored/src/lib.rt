@@ -8,20 +8,21 @@ ghost use Rattle.words.specs.Paste.{pasted};
 ghost use Rattle.book.specs.Meaning.{bookForm};
 ghost use Rattle.stored.specs.Image.{BOOK, wordsOf, bookAt};
 use book::Book;
+use image::Layout;
 
 // The book whose bytes start at a.
 pub fn load(register: &[u8], a: usize) -> Book
     requires { ⌜ a + BOOK ≤ length (now register) ⌝ }
     ensures { λ r. ⌜ r ≡ bookAt (now (register .entry)) a ⌝ }
 {
-    let mut terms = [0u64; 12];
-    let mut cells = [0u64; 90];
-    let mut changes = [0u64; 128];
+    let mut terms = [0u64; Layout::TERMS];
+    let mut cells = [0u64; Layout::CELLS];
+    let mut changes = [0u64; Layout::CHANGES];
     let opened = words::word_at(register, a);
-    words::load_at(register, a + 8, &mut terms);
-    words::load_at(register, a + 104, &mut cells);
-    let kept = words::word_at(register, a + 824);
-    words::load_at(register, a + 832, &mut changes);
+    words::load_at(register, a + Layout::TERMS_AT, &mut terms);
+    words::load_at(register, a + Layout::CELLS_AT, &mut cells);
+    let kept = words::word_at(register, a + Layout::KEPT_AT);
+    words::load_at(register, a + Layout::CHANGES_AT, &mut changes);
     Book {
         opened,
         terms,
@@ -56,6 +57,6 @@ pub fn store(register: &mut [u8], a: usize, b: Book)
     ensures { λ _. ⌜ now (register .exit) ≡ pasted (now (register .entry)) a (bytesOf (wordsOf b)) ⌝ }
 {
     store_both(b.opened, &b.terms, register, a);
-    words::store_at(&b.cells, register, a + 104);
-    store_both(b.kept, &b.changes, register, a + 824);
+    words::store_at(&b.cells, register, a + Layout::CELLS_AT);
+    store_both(b.kept, &b.changes, register, a + Layout::KEPT_AT);
 }

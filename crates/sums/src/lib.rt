@@ -8,6 +8,7 @@ ghost use Rattle.image.specs.Places.{placesOf, axisOf};
 ghost use Rattle.image.specs.Ready.{Ready};
 ghost use Rattle.sums.specs.Sums.{keptOf, Adds, totalsOf, AllModest};
 ghost use Rattle.sums.specs.Places.{placeAt};
+use image::Layout;
 use procedure::Procedure;
 
 // The words of a set: x, y, h of each point.
@@ -17,7 +18,13 @@ const SET: usize = Procedure::POINTS * 3;
 const APPROXIMATE: usize = 6;
 
 // Reading i of a point along an axis (0 x, 1 y, 2 h), kept as its offset + 100,000.
-fn kept(terms: &[u64; 12], cells: &[u64; 90], point: usize, axis: usize, i: usize) -> u64
+fn kept(
+    terms: &[u64; Layout::TERMS],
+    cells: &[u64; Layout::CELLS],
+    point: usize,
+    axis: usize,
+    i: usize,
+) -> u64
     requires { ⌜ (1 ≤ point) × (point ≤ POINTS) × (axis < 3) × (i < ROUNDS) × Ready (now terms) (now cells) ⌝ }
     ensures { λ r. ⌜ (r ≡ keptOf (now (terms .entry)) (now (cells .entry)) point axis i) × (r ≤ 200000) ⌝ }
 {
@@ -32,7 +39,12 @@ struct Added {
 }
 
 // Both sums of the 15 kept numbers of a point and an axis.
-fn added_up(terms: &[u64; 12], cells: &[u64; 90], point: usize, axis: usize) -> Added
+fn added_up(
+    terms: &[u64; Layout::TERMS],
+    cells: &[u64; Layout::CELLS],
+    point: usize,
+    axis: usize,
+) -> Added
     requires { ⌜ (1 ≤ point) × (point ≤ POINTS) × (axis < 3) × Ready (now terms) (now cells) ⌝ }
     ensures { λ r. ⌜ Adds (now (terms .entry)) (now (cells .entry)) point axis r ⌝ }
 {
@@ -47,7 +59,12 @@ fn added_up(terms: &[u64; 12], cells: &[u64; 90], point: usize, axis: usize) -> 
 }
 
 // Q of a point and an axis.
-fn spread(terms: &[u64; 12], cells: &[u64; 90], point: usize, axis: usize) -> u64
+fn spread(
+    terms: &[u64; Layout::TERMS],
+    cells: &[u64; Layout::CELLS],
+    point: usize,
+    axis: usize,
+) -> u64
     requires { ⌜ (1 ≤ point) × (point ≤ POINTS) × (axis < 3) × Ready (now terms) (now cells) ⌝ }
     ensures { λ r. ⌜ (r ≡ Q (termsOf (now (terms .entry))) (placesOf (now (cells .entry))) (axisOf axis) point) × (r ≤ 2250000000000) ⌝ }
 {
@@ -56,7 +73,12 @@ fn spread(terms: &[u64; 12], cells: &[u64; 90], point: usize, axis: usize) -> u6
 }
 
 // 15·r of the reading at a place, counted from 0 in sheet order, along an axis.
-pub fn residual(terms: &[u64; 12], cells: &[u64; 90], place: usize, axis: usize) -> i64
+pub fn residual(
+    terms: &[u64; Layout::TERMS],
+    cells: &[u64; Layout::CELLS],
+    place: usize,
+    axis: usize,
+) -> i64
     requires { ⌜ (place < PLACES) × (axis < 3) × Ready (now terms) (now cells) ⌝ }
     ensures { λ r. ⌜ r ≡ residual15 (termsOf (now (terms .entry))) (placesOf (now (cells .entry))) (placeAt place) (axisOf axis) ⌝ }
 {
@@ -67,7 +89,7 @@ pub fn residual(terms: &[u64; 12], cells: &[u64; 90], place: usize, axis: usize)
 }
 
 // The sum of Q over both points.
-fn both(terms: &[u64; 12], cells: &[u64; 90], axis: usize) -> u64
+fn both(terms: &[u64; Layout::TERMS], cells: &[u64; Layout::CELLS], axis: usize) -> u64
     requires { ⌜ (axis < 3) × Ready (now terms) (now cells) ⌝ }
     ensures { λ r. ⌜ (r ≡ both (termsOf (now (terms .entry))) (placesOf (now (cells .entry))) (axisOf axis)) × (r ≤ 4500000000000) ⌝ }
 {
@@ -85,7 +107,7 @@ pub struct Totals {
 }
 
 // The four sums of a book.
-pub fn sums(terms: &[u64; 12], cells: &[u64; 90]) -> Totals
+pub fn sums(terms: &[u64; Layout::TERMS], cells: &[u64; Layout::CELLS]) -> Totals
     requires { ⌜ Ready (now terms) (now cells) ⌝ }
     ensures { λ r. ⌜ (r ≡ totalsOf (termsOf (now (terms .entry))) (placesOf (now (cells .entry)))) × AllModest r ⌝ }
 {

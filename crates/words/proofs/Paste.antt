@@ -40,7 +40,7 @@ pub load-at-turn : (bs out₀ : List ℕ) (at i : ℕ) → i < length out₀
     → set (words i (drop at bs) ++ drop i out₀) i (le (take 8 (drop (at + i * 8) bs))) ≡ words (i + 1) (drop at bs) ++ drop (i + 1) out₀
 load-at-turn bs out₀ at i h = rw (← drop-drop (i * 8) at bs) (load-turn (drop at bs) out₀ i h)
 
-pub one-word : (w : ℕ) → bytesOf (w ∷ []) ≡ digits 8 w
+one-word : (w : ℕ) → bytesOf (w ∷ []) ≡ digits 8 w
 unfolding bytesOf
 one-word w = append-nil (digits 8 w)
 
@@ -75,7 +75,7 @@ words-front (w ∷ ws) z h =
 pub le-front : (w : ℕ) (z : List ℕ) → w < 2 ^ 64 → le (take 8 (digits 8 w ++ z)) ≡ w
 le-front w z h = rw (take-at (digits 8 w) z 8 (length-digits 8 w)) (le-digits 8 w h)
 
-pub drop-take : (m k : ℕ) (l : List ℕ) → drop m (take (m + k) l) ≡ take k (drop m l)
+drop-take : (m k : ℕ) (l : List ℕ) → drop m (take (m + k) l) ≡ take k (drop m l)
 drop-take zero k l = rw zero-add
 drop-take (suc m) k [] = rw (suc-add, take-nil)
 drop-take (suc m) k (x ∷ l) = rw suc-add (drop-take m k l)
@@ -93,8 +93,8 @@ stores-pasted : (vs l : List ℕ) (at : ℕ) → at + length vs ≤ length l →
 unfolding pasted
 stores-pasted vs l at h = sets-eq vs l at h ∙ append-assoc (take at l) vs (drop (at + length vs) l)
 
-pub three-pasted : (l : List ℕ) (p x y h : ℕ) → p * 3 + 3 ≤ length l → set (set (set l (p * 3) x) (p * 3 + 1) y) (p * 3 + 2) h ≡ pasted l (p * 3) (x ∷ y ∷ h ∷ [])
-three-pasted l p x y h k = simp unary-clauses (stores-pasted (x ∷ y ∷ h ∷ []) l (p * 3) k)
+pub three-pasted : (l : List ℕ) (at x y h : ℕ) → at + 3 ≤ length l → set (set (set l at x) (at + 1) y) (at + 2) h ≡ pasted l at (x ∷ y ∷ h ∷ [])
+three-pasted l at x y h k = simp unary-clauses (stores-pasted (x ∷ y ∷ h ∷ []) l at k)
 
 pub four-pasted : (l : List ℕ) (at w : ℕ) → at + 4 ≤ length l
     → set (set (set (set l at (w % 256)) (at + 1) (w / 256 % 256)) (at + 2) (w / 256 / 256 % 256)) (at + 3) (w / 256 / 256 / 256 % 256)

@@ -6,7 +6,7 @@ use Prim.Native.Nat.{ℕ, zero, suc, _+_, _*_, _/_, _%_, _^_, _≤_, _<_}
 use native.Mathlib.Numerals.{add-one, unary-clauses}
 use native.Mathlib.Omega.{arith}
 use native.Mathlib.Nat.{mul-suc, mul-zero, add-zero, mul-comm, suc-add, zero-add, mul-assoc, pow-succ', div-one, div-div-eq-div-mul}
-use lib.ListN.{set, length, take, drop, getD, take-append-drop, length-append, length-drop}
+use lib.ListN.{set, length, take, drop, getD, take-append-drop, length-append, length-drop, drop-of-length-le}
 use lib.Seq.{set-at, append-snoc, drop-cons, drop-drop, length-take-le, getD-drop}
 use Rattle.words.specs.Words.{le, fourAt, digits, words, bytesOf}
 
@@ -24,7 +24,7 @@ le-digits (suc n) w h =
     let e : 256 ^ suc n ≡ 256 * 256 ^ n = pow-succ' 256 n in
     rw (le-digits n (w / 256) (omega arith)) (omega arith)
 
-pub digits-le : (bs : List ℕ) → ((i : ℕ) → getD bs i 0 < 256) → digits (length bs) (le bs) ≡ bs
+digits-le : (bs : List ℕ) → ((i : ℕ) → getD bs i 0 < 256) → digits (length bs) (le bs) ≡ bs
 unfolding digits le
 digits-le [] h = refl
 digits-le (b ∷ bs) h =
@@ -35,7 +35,7 @@ digits-le (b ∷ bs) h =
 
 -- ---- in two parts
 
-pub le-parts : (n m : ℕ) (l : List ℕ) → n ≤ length l → le (take (n + m) l) ≡ le (take n l) + 256 ^ n * le (take m (drop n l))
+le-parts : (n m : ℕ) (l : List ℕ) → n ≤ length l → le (take (n + m) l) ≡ le (take n l) + 256 ^ n * le (take m (drop n l))
 unfolding le
 le-parts zero m l h = let e : 256 ^ 0 ≡ 1 = refl in rw (zero-add, e) (omega arith)
 le-parts (suc n) m [] h = absurd (omega arith)
@@ -51,11 +51,7 @@ digits-parts (suc n) m w = rw (suc-add, digits-parts n m (w / 256), pow-succ' 25
 
 -- ---- words
 
-nil-of : (bs : List ℕ) → length bs ≡ 0 → bs ≡ []
-nil-of [] e = refl
-nil-of (b ∷ bs) e = let z : ⊥ = omega arith in absurd z
-
-below-take : (n : ℕ) (bs : List ℕ) → ((i : ℕ) → getD bs i 0 < 256) → (i : ℕ) → getD (take n bs) i 0 < 256
+pub below-take : (n : ℕ) (bs : List ℕ) → ((i : ℕ) → getD bs i 0 < 256) → (i : ℕ) → getD (take n bs) i 0 < 256
 below-take zero bs h i = omega arith
 below-take (suc n) [] h i = omega arith
 below-take (suc n) (b ∷ bs) h zero = h 0
@@ -68,7 +64,7 @@ unfolding le
 sucs bs at = simp (unary-clauses, mul-zero, add-zero)
 
 -- the first four bytes from at are those that the sum names
-pub le-four : (bs : List ℕ) (at : ℕ) → at + 4 ≤ length bs → le (take 4 (drop at bs)) ≡ fourAt bs at
+le-four : (bs : List ℕ) (at : ℕ) → at + 4 ≤ length bs → le (take 4 (drop at bs)) ≡ fourAt bs at
 unfolding le
 le-four bs at h =
     rw (
@@ -109,7 +105,7 @@ bytesOf-append (x ∷ xs) ys = rw (bytesOf-append xs ys, append-assoc)
 
 pub bytesOf-words : (n : ℕ) (bs : List ℕ) → length bs ≡ 8 * n → ((i : ℕ) → getD bs i 0 < 256) → bytesOf (words n bs) ≡ bs
 unfolding words bytesOf
-bytesOf-words zero bs e h = sym (nil-of bs e)
+bytesOf-words zero bs e h = sym (drop-of-length-le bs {i = 0} (omega arith))
 bytesOf-words (suc n) bs e h =
     let l8 : length (take 8 bs) ≡ 8 = length-take-le 8 bs (omega (arith, mul-suc 8 n)) in
     let d : digits 8 (le (take 8 bs)) ≡ take 8 bs =

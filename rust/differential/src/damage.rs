@@ -117,7 +117,8 @@ fn cut(dice: &mut Dice, bytes: &mut Vec<u8>) {
 }
 
 fn lengthen(dice: &mut Dice, bytes: &mut Vec<u8>) {
-    let more = dice.pick(&[1, 7, 8, BOOK_BYTES, LENGTH]);
+    // With 65,536 bytes more the length is right if its high bits are lost.
+    let more = dice.pick(&[1, 7, 8, BOOK_BYTES, LENGTH, 1 << 16]);
     let filler = dice.pick(&[0, 0, 0xFF]);
     bytes.resize(LENGTH + more, filler);
 }

@@ -4,7 +4,7 @@
 use crate::call::{Call, Place, Reading, Terms};
 use crate::dice::Dice;
 use crate::image::{place, Image, PLACES};
-use crate::recipe::{self, Recipe};
+use crate::recipe::{self, Recipe, HIGH_BITS};
 use meliphrast::BOOKS;
 use std::collections::VecDeque;
 
@@ -259,7 +259,8 @@ impl Examiner {
             30..=31 => Call::Changes(book),
             32..=35 => Call::Evaluate(book),
             36..=41 => Call::Compare(book, self.any_book(), self.any_axis()),
-            42..=45 => Call::PassList(self.dice.pick(&[0, 1, 15, 16, 17, 300])),
+            // 256 and 65,536 are no room at all if high bits are lost.
+            42..=45 => Call::PassList(self.dice.pick(&[0, 1, 15, 16, 17, 300, 1 << 8, 1 << 16])),
             _ => Call::PassList(self.room()),
         }
     }
@@ -282,7 +283,11 @@ impl Examiner {
     }
 
     fn any_axis(&mut self) -> u64 {
-        self.dice.pick(&[1, 2, 1, 2, 1, 2, 0, 3, u64::MAX])
+        if self.dice.one_in(3) {
+            self.any_number()
+        } else {
+            self.dice.below(2) + 1
+        }
     }
 
     fn any_place(&mut self) -> Place {
@@ -327,13 +332,17 @@ impl Examiner {
             }
             _ => [self.any_length(), self.any_length(), self.any_length()],
         };
-        if self.dice.one_in(4) {
-            reading[self.dice.index(3)] = self.any_length();
+        let axis = self.dice.index(3);
+        match self.dice.below(8) {
+            0..=1 => reading[axis] = self.any_length(),
+            2 => reading[axis] = reading[axis].wrapping_add(self.dice.pick(&HIGH_BITS)),
+            _ => {}
         }
         reading
     }
 
-    /// Ends of ranges, of twelve digits and of the machine's numbers, and next to them.
+    /// Ends of ranges, of twelve digits and of the machine's numbers, next to them, and small
+    /// lengths if high bits are lost.
     fn any_length(&mut self) -> i64 {
         const ENDS: [i64; 10] = [
             0,
@@ -348,11 +357,12 @@ impl Examiner {
             i64::MAX,
         ];
         let end = self.dice.pick(&ENDS) * self.dice.sign();
-        match self.dice.below(5) {
+        match self.dice.below(6) {
             0 => self.dice.word() as i64,
             1 => end,
             2 => end.wrapping_add(1),
             3 => end.wrapping_sub(1),
+            4 => self.dice.between(1, 500) + self.dice.pick(&HIGH_BITS),
             _ => end.wrapping_sub(self.dice.between(0, 2_000_000_000_000)),
         }
     }

@@ -129,12 +129,14 @@ fn with_other_bytes(dice: &mut Dice, mut file: Vec<u8>) -> Vec<u8> {
 }
 
 fn no_file(dice: &mut Dice, mut file: Vec<u8>) -> Vec<u8> {
-    match dice.below(6) {
+    match dice.below(7) {
         0 => file.truncate(dice.index(file.len())),
         1 => file.extend_from_within(..),
         2 => file.resize(dice.pick(&[4_096, 4_097, 5_000]), b'\n'),
         3 => file.push(dice.byte()),
-        4 => {
+        // With its high bits lost the length is that of the file before.
+        4 => file.resize(file.len() + (1 << 16), b'\n'),
+        5 => {
             let length = dice.index(300);
             file = (0..length).map(|_| dice.byte()).collect();
         }

@@ -10,6 +10,9 @@ const DEVIATION_AT_MOST: i64 = 10_000;
 const COORDINATE_AT_MOST: i64 = 100_000_000_000;
 const OFFSET_AT_MOST: i64 = 100_000;
 
+/// Added to a length that is in range: it falls back there if they are lost.
+pub const HIGH_BITS: [i64; 3] = [1 << 32, 1 << 40, i64::MIN];
+
 #[derive(Clone, Debug)]
 pub struct Recipe {
     pub terms: Terms,
@@ -270,7 +273,8 @@ pub fn spoiled(dice: &mut Dice, mut terms: Terms) -> Terms {
         6..9 => terms[at + 3] + (NOMINAL_AT_MOST + 1) * dice.sign(),
         _ => terms[at - 3] + (NOMINAL_AT_MOST + 1) * dice.sign(),
     };
-    terms[at] = dice.pick(&[edge, edge, edge, i64::MIN, i64::MAX]);
+    let fallen_back = terms[at].wrapping_add(dice.pick(&HIGH_BITS));
+    terms[at] = dice.pick(&[edge, edge, edge, fallen_back, i64::MIN, i64::MAX]);
     terms
 }
 

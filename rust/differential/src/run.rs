@@ -1,4 +1,5 @@
-//! A run: the examples, then rounds of calls, damaged registers and files, all from one seed.
+//! A run: the examples and the pass lists, then rounds of calls, damaged registers and files, all
+//! from one seed.
 
 use crate::call::Call;
 use crate::damage::damaged;
@@ -7,7 +8,7 @@ use crate::examiner::Examiner;
 use crate::program::{Library, Program};
 use crate::side_by_side::{Difference, SideBySide};
 use crate::tally::Tally;
-use crate::{examples, file};
+use crate::{examples, file, lists};
 use meliphrast::LENGTH;
 use std::ops::Range;
 use std::thread;
@@ -36,6 +37,7 @@ pub fn run(
 ) -> Result<Tally, Box<Difference>> {
     let mut pair = SideBySide::new(program);
     examples::run(&mut pair)?;
+    lists::run(&mut pair)?;
     for round in rounds {
         pair.round = round;
         let mut examiner = Examiner::new(Dice::of_round(seed, round));

@@ -107,12 +107,28 @@ impl SideBySide<'_> {
     }
 }
 
+/// Where one of two ends before the other, that is the first other byte.
 fn first_other_byte(ours: &Lent, theirs: &Lent) -> Option<usize> {
     let (ours, theirs) = (ours.bytes(), theirs.bytes());
     if ours == theirs {
         return None;
     }
-    ours.iter()
-        .zip(theirs)
-        .position(|(one, other)| one != other)
+    let pairs = ours.iter().zip(theirs);
+    Some(pairs.take_while(|(one, other)| one == other).count())
+}
+
+#[cfg(test)]
+mod tests {
+    use super::*;
+
+    #[test]
+    fn another_byte_and_another_length_are_told() {
+        let first_other = |ours: &[u8], theirs: &[u8]| {
+            first_other_byte(&Lent::copy_of(ours, 3), &Lent::copy_of(theirs, 0))
+        };
+        assert_eq!(first_other(b"list", b"list"), None);
+        assert_eq!(first_other(b"list", b"lost"), Some(1));
+        assert_eq!(first_other(b"list", b"lis"), Some(3));
+        assert_eq!(first_other(b"", b"list"), Some(0));
+    }
 }

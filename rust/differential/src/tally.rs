@@ -4,6 +4,8 @@ use crate::call::{Answer, Call, H, KINDS, XY};
 use crate::examiner::ROOMS;
 use crate::image::Image;
 use crate::sums;
+use meliphrast::BOOKS;
+use second::register::pass_list;
 use std::collections::BTreeMap;
 use std::fmt;
 use std::ops::AddAssign;
@@ -55,7 +57,8 @@ const CASES: [&str; 18] = [
 #[derive(Clone, Debug, Default)]
 pub struct Tally {
     outcomes: [[u64; OUTCOMES]; KINDS.len()],
-    rooms: [u64; ROOMS],
+    /// By the number of books on the list, then by its room
+    lists: [[u64; ROOMS]; BOOKS + 1],
     cases: BTreeMap<&'static str, u64>,
     pub damaged: u64,
 }
@@ -82,7 +85,7 @@ impl Tally {
         };
         self.outcomes[call.kind()][outcome.min(OUTCOMES - 1)] += 1;
         match *call {
-            Call::PassList(room) if room < ROOMS => self.rooms[room] += 1,
+            Call::PassList(room) if outcome != 1 => self.count_list(register, room),
             Call::Evaluate(_) | Call::EvaluateFile(_) if answer.is_accepted() => {
                 self.count_verdicts(answer);
                 if let Call::Evaluate(book) = *call {
@@ -97,6 +100,14 @@ impl Tally {
                 self.case(["suspect distance", "suspect height"][answer.named[2] as usize - 1])
             }
             _ => {}
+        }
+    }
+
+    /// A refused list is counted by the books that it had no room for.
+    fn count_list(&mut self, register: &[u8], room: usize) {
+        let books = pass_list(register, &mut [0; BOOKS]).count;
+        if let Some(times) = self.lists[books as usize].get_mut(room) {
+            *times += 1;
         }
     }
 
@@ -176,12 +187,10 @@ impl Tally {
                 }
             }
         }
-        let rooms = self
-            .rooms
-            .iter()
-            .enumerate()
-            .filter(|(_, times)| **times == 0);
-        missing.extend(rooms.map(|(room, _)| format!("a list of {room} bytes")));
+        for (books, rooms) in self.lists.iter().enumerate() {
+            let never = (0..ROOMS).filter(|room| rooms[*room] == 0);
+            missing.extend(never.map(|room| format!("{books} books in a list of {room} bytes")));
+        }
         let cases = CASES.iter();
         let absent = cases.filter(|case| !self.cases.contains_key(*case));
         missing.extend(absent.map(|case| case.to_string()));
@@ -193,8 +202,9 @@ impl AddAssign for Tally {
     fn add_assign(&mut self, other: Tally) {
         let outcomes = self.outcomes.iter_mut().flatten();
         let others = other.outcomes.iter().flatten();
-        let rooms = self.rooms.iter_mut().zip(&other.rooms);
-        for (here, there) in outcomes.zip(others).chain(rooms) {
+        let lists = self.lists.iter_mut().flatten();
+        let other_lists = other.lists.iter().flatten();
+        for (here, there) in outcomes.zip(others).chain(lists.zip(other_lists)) {
             *here += there;
         }
         for (case, times) in other.cases {
@@ -220,7 +230,11 @@ impl fmt::Display for Tally {
             }
             writeln!(f)?;
         }
-        writeln!(f, "  lists of 0 to {} bytes: {:?}", ROOMS - 1, self.rooms)?;
+        let by_books = self.lists.map(|rooms| rooms.iter().sum::<u64>());
+        writeln!(f, "  lists of 0 to {BOOKS} books: {by_books:?}")?;
+        let in_room = |room: usize| self.lists.iter().map(|rooms| rooms[room]).sum();
+        let by_room: [u64; ROOMS] = std::array::from_fn(in_room);
+        writeln!(f, "  lists of 0 to {} bytes: {by_room:?}", ROOMS - 1)?;
         for (case, times) in &self.cases {
             writeln!(f, "  {case}: {times}")?;
         }

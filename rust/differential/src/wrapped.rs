@@ -4,8 +4,7 @@ use crate::call::{self, Answer, Call};
 use crate::desk::Desk;
 use crate::program::{Library, Program};
 use meliphrast::{
-    evaluate_file, Axis, Comparison, Evaluation, Place, Point, Reading, Refusal, Register, Terms,
-    Verdict, LENGTH,
+    evaluate_file, Axis, Evaluation, Place, Reading, Refusal, Register, Terms, Verdict, LENGTH,
 };
 
 pub struct Wrapped;
@@ -17,16 +16,16 @@ impl Program for Wrapped {
             Call::Length => return Answer::number(LENGTH as u64),
             Call::Check => register.check(),
             Call::Fresh => register.make_fresh(),
-            Call::Open(book, numbers) => register.open(book, terms(numbers)),
+            Call::Open(book, numbers) => register.open(book, Terms::from(numbers)),
             Call::Strike(book) => register.strike(book),
-            Call::Enter(book, at, read) => register.enter(book, place(at), reading(read)),
-            Call::Correct(book, at, read) => register.correct(book, place(at), reading(read)),
-            Call::Withdraw(book, at) => register.withdraw(book, place(at)),
+            Call::Enter(book, at, read) => register.enter(book, Place::from(at), reading(read)),
+            Call::Correct(book, at, read) => register.correct(book, Place::from(at), reading(read)),
+            Call::Withdraw(book, at) => register.withdraw(book, Place::from(at)),
             Call::TakeBack(book) => register.take_back(book),
             Call::PassList(_) => return listed(&register, desk.list.bytes_mut()),
             Call::EvaluateFile(_) => return evaluated(evaluate_file(desk.file.bytes())),
             // The wrapper's axis has two cases, so a third has to go past it.
-            Call::Compare(_, _, axis) if axis != 1 && axis != 2 => {
+            Call::Compare(_, _, axis) if Axis::try_from(axis).is_err() => {
                 return Library.answer(call, desk)
             }
             _ => return looked_up(call, &register),
@@ -37,18 +36,18 @@ impl Program for Wrapped {
 
 fn looked_up(call: &Call, register: &Register<&mut [u8]>) -> Answer {
     match *call {
-        Call::Read(book, at) => answer(register.read(book, place(at)), |read| {
+        Call::Read(book, at) => answer(register.read(book, Place::from(at)), |read| {
             Answer::lengths(0, [read.x, read.y, read.h])
         }),
-        Call::Residual(book, at) => answer(register.residual(book, place(at)), |residual| {
+        Call::Residual(book, at) => answer(register.residual(book, Place::from(at)), |residual| {
             Answer::lengths(0, [residual.x, residual.y, residual.h])
         }),
         Call::Changes(book) => answer(register.changes(book), |count| Answer::count(0, count)),
         Call::Evaluate(book) => evaluated(register.evaluate(book)),
         Call::Compare(first, second, axis) => {
-            let axis = if axis == 1 { Axis::Xy } else { Axis::H };
+            let axis = Axis::try_from(axis).expect("any other goes past the wrapper");
             answer(register.compare(first, second, axis), |comparison| {
-                Answer::count(0, u64::from(comparison == Comparison::Same))
+                Answer::count(0, u64::from(comparison.is_same()))
             })
         }
         _ => unreachable!("a call that changes something"),
@@ -93,32 +92,6 @@ fn words(verdict: Verdict) -> [u64; 3] {
         verdict.deviation().to_bits(),
         verdict.bound().to_bits(),
     ]
-}
-
-fn terms(numbers: call::Terms) -> Terms {
-    let [distance, height, s_xy, s_h, sigma_xy, sigma_h, x1, y1, h1, x2, y2, h2] = numbers;
-    Terms {
-        distance,
-        height,
-        s_xy,
-        s_h,
-        sigma_xy,
-        sigma_h,
-        point_1: Point {
-            x: x1,
-            y: y1,
-            h: h1,
-        },
-        point_2: Point {
-            x: x2,
-            y: y2,
-            h: h2,
-        },
-    }
-}
-
-fn place([series, set, point]: call::Place) -> Place {
-    Place { series, set, point }
 }
 
 fn reading([x, y, h]: call::Reading) -> Reading {

@@ -20,12 +20,17 @@ fn told(outcome: Result<Tally, Box<Difference>>) -> Tally {
     outcome.unwrap_or_else(|part| panic!("seed {SEED}, {part}"))
 }
 
+/// Every outcome of every call, every list, and whatever else is worth a case.
+fn must_have_tried_all(tally: &Tally) {
+    let missing = tally.missing();
+    assert!(missing.is_empty(), "not tried: {missing:?}");
+}
+
 #[test]
 fn the_library_answers_as_the_second_implementation() {
     let tally = told(run_on_two(SEED, GATE));
     show("library", &tally);
-    let missing = tally.missing();
-    assert!(missing.is_empty(), "not tried: {missing:?}");
+    must_have_tried_all(&tally);
     assert!(tally.calls() >= 200_000);
     assert!(tally.files() >= 50_000);
     assert!(tally.damaged >= 50_000);
@@ -42,4 +47,5 @@ fn every_flipped_bit_is_seen_alike() {
 fn the_wrapper_answers_as_the_library() {
     let tally = told(run(&mut Wrapped, SEED, 0..10));
     show("wrapper", &tally);
+    must_have_tried_all(&tally);
 }

@@ -4,12 +4,17 @@ use differential::run::{run, GATE, SEED};
 use differential::wrong::wrong_programs;
 use std::io::Write;
 
+/// As many as README tells of.
+const PROGRAMS: usize = 80;
+
 #[test]
 fn every_wrong_program_is_caught() {
     let mut out = std::io::stdout().lock();
     writeln!(out, "\nwrong programs, seed {SEED}:").expect("standard output");
     let mut missed = Vec::new();
-    for mut wrong in wrong_programs() {
+    let programs = wrong_programs();
+    assert_eq!(programs.len(), PROGRAMS);
+    for mut wrong in programs {
         match run(&mut wrong, SEED, GATE) {
             Ok(_) => missed.push(wrong.name),
             Err(part) => {

@@ -94,6 +94,11 @@ pub enum Comparison {
 }
 
 impl Comparison {
+    /// Whether it says the same population.
+    pub fn is_same(self) -> bool {
+        self == Comparison::Same
+    }
+
     pub(crate) fn told(told: sys::Comparison) -> Result<Comparison, Refusal> {
         Refusal::told(told.refusal, [told.series, told.set, told.quantity])?;
         Ok(if told.same == 1 {
@@ -105,6 +110,16 @@ impl Comparison {
 }
 
 /// What two books are compared on.
+///
+/// A number that is no axis is PLACE here as it is in the library. The library looks at the
+/// register before it; [`boundary::compare`](crate::boundary::compare) leaves the number to it.
+///
+/// ```
+/// use meliphrast::{Axis, Refusal};
+///
+/// assert_eq!(Axis::try_from(Axis::H.number()), Ok(Axis::H));
+/// assert_eq!(Axis::try_from(3), Err(Refusal::Place));
+/// ```
 #[derive(Clone, Copy, Debug, Eq, Hash, PartialEq)]
 pub enum Axis {
     /// 1: position
@@ -119,6 +134,18 @@ impl Axis {
         match self {
             Axis::Xy => 1,
             Axis::H => 2,
+        }
+    }
+}
+
+impl TryFrom<u64> for Axis {
+    type Error = Refusal;
+
+    fn try_from(number: u64) -> Result<Axis, Refusal> {
+        match number {
+            1 => Ok(Axis::Xy),
+            2 => Ok(Axis::H),
+            _ => Err(Refusal::Place),
         }
     }
 }

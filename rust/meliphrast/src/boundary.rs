@@ -27,18 +27,21 @@ pub fn length() -> u64 {
 }
 
 /// The form check apart: 0 in form, 1 REGISTER.
+#[must_use = "the number is all that tells of a refusal"]
 pub fn check(register: &[u8]) -> u64 {
     // SAFETY: pointer and length of a slice lent for the call.
     unsafe { sys::rtk_check(register.as_ptr(), register.len()) }
 }
 
 /// Closes every book, whatever the bytes held before.
+#[must_use = "the number is all that tells of a refusal"]
 pub fn fresh(register: &mut [u8]) -> u64 {
     // SAFETY: pointer and length of a slice lent for the call.
     unsafe { sys::rtk_fresh(register.as_mut_ptr(), register.len()) }
 }
 
 /// Opens a closed book; the terms are in the order of a file's TERMS line.
+#[must_use = "the number is all that tells of a refusal"]
 pub fn open(register: &mut [u8], book: u64, terms: [i64; 12]) -> u64 {
     let (pointer, length) = (register.as_mut_ptr(), register.len());
     let [d, h, s_xy, s_h, sigma_xy, sigma_h, x1, y1, h1, x2, y2, h2] = terms;
@@ -51,12 +54,14 @@ pub fn open(register: &mut [u8], book: u64, terms: [i64; 12]) -> u64 {
 }
 
 /// Closes an open book; its readings and changes are gone.
+#[must_use = "the number is all that tells of a refusal"]
 pub fn strike(register: &mut [u8], book: u64) -> u64 {
     // SAFETY: pointer and length of a slice lent for the call.
     unsafe { sys::rtk_strike(register.as_mut_ptr(), register.len(), book) }
 }
 
 /// Enters x, y, h at the empty place (series, set, point).
+#[must_use = "the number is all that tells of a refusal"]
 pub fn enter(register: &mut [u8], book: u64, place: [u64; 3], reading: [i64; 3]) -> u64 {
     let (pointer, length) = (register.as_mut_ptr(), register.len());
     let ([series, set, point], [x, y, h]) = (place, reading);
@@ -65,6 +70,7 @@ pub fn enter(register: &mut [u8], book: u64, place: [u64; 3], reading: [i64; 3])
 }
 
 /// Corrects the filled place (series, set, point) to x, y, h.
+#[must_use = "the number is all that tells of a refusal"]
 pub fn correct(register: &mut [u8], book: u64, place: [u64; 3], reading: [i64; 3]) -> u64 {
     let (pointer, length) = (register.as_mut_ptr(), register.len());
     let ([series, set, point], [x, y, h]) = (place, reading);
@@ -73,6 +79,7 @@ pub fn correct(register: &mut [u8], book: u64, place: [u64; 3], reading: [i64; 3
 }
 
 /// Withdraws the reading at the filled place (series, set, point).
+#[must_use = "the number is all that tells of a refusal"]
 pub fn withdraw(register: &mut [u8], book: u64, place: [u64; 3]) -> u64 {
     let [series, set, point] = place;
     // SAFETY: pointer and length of a slice lent for the call.
@@ -89,6 +96,7 @@ pub fn withdraw(register: &mut [u8], book: u64, place: [u64; 3]) -> u64 {
 }
 
 /// Takes back the latest change not yet taken back.
+#[must_use = "the number is all that tells of a refusal"]
 pub fn take_back(register: &mut [u8], book: u64) -> u64 {
     // SAFETY: pointer and length of a slice lent for the call.
     unsafe { sys::rtk_take_back(register.as_mut_ptr(), register.len(), book) }

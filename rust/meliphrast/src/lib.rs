@@ -9,34 +9,28 @@
 //! A server's day, with a correction that moves a receiver off the pass list:
 //!
 //! ```
-//! use meliphrast::{Place, Point, Reading, Refusal, Register, Terms, BOOKS};
+//! use meliphrast::{Place, Reading, Refusal, Register, Terms};
 //!
 //! # fn main() -> Result<(), Refusal> {
-//! # let (point_1, point_2) = (Point { x: 0, y: 0, h: 0 }, Point { x: 100_000, y: 0, h: 0 });
-//! # let (s_xy, s_h, sigma_xy, sigma_h) = (150, 250, 20, 20);
-//! # let (distance, height) = (100_000, 0);
-//! # let terms = Terms { distance, height, s_xy, s_h, sigma_xy, sigma_h, point_1, point_2 };
+//! // D*, h*, s_xy, s_h, sigma_xy, sigma_h, then X, Y and H of points 1 and 2, in 0.1 mm
+//! let terms = Terms::from([100_000, 0, 150, 250, 20, 20, 0, 0, 0, 100_000, 0, 0]);
 //! let mut register = Register::fresh();
 //! register.open(7, terms)?;
 //! for place in Place::sheet() {
 //!     let x = if place.point == 1 { 0 } else { 100_000 };
 //!     register.enter(7, place, Reading { x, y: 0, h: 0 })?;
 //! }
-//! let mut list = [0; BOOKS];
-//! assert_eq!(register.pass_list(&mut list)?, [7]);
+//! assert_eq!(register.passing()?, [7]);
 //! register.correct(7, Place { series: 1, set: 1, point: 1 }, Reading { x: 127, y: 0, h: 0 })?;
-//! assert_eq!(register.pass_list(&mut list)?, []);
+//! assert_eq!(register.passing()?, []);
 //! register.take_back(7)?;
-//! assert_eq!(register.pass_list(&mut list)?, [7]);
+//! assert_eq!(register.passing()?, [7]);
 //! # Ok(())
 //! # }
 //! ```
 //!
 //! Lengths are whole numbers of 0.1 mm, figures are millimetres. [`boundary`] has the calls as
 //! plain numbers and slices, [`sys`] their C declarations.
-
-#![deny(missing_docs)]
-#![deny(unsafe_code)]
 
 mod answers;
 #[allow(unsafe_code)]
@@ -47,7 +41,7 @@ mod sheet;
 pub mod sys;
 
 pub use answers::{Axis, Comparison, Evaluation, Sheet, Verdict};
-pub use refusal::{Quantity, Refusal, Suspect};
+pub use refusal::{NoSuchQuantity, Quantity, Refusal, Suspect};
 pub use register::Register;
 pub use sheet::{Place, Point, Reading, Residual, Terms};
 
@@ -58,6 +52,11 @@ pub const LENGTH: usize = 29_696;
 pub const BOOKS: usize = 16;
 
 /// Reads a field file of any bytes and evaluates it; no register is touched.
+///
+/// # Errors
+///
+/// The first that applies of [`Refusal::Form`], [`Refusal::Terms`], [`Refusal::Far`],
+/// [`Refusal::Short`], [`Refusal::Suspect`].
 ///
 /// ```
 /// use meliphrast::{evaluate_file, Refusal};
@@ -71,3 +70,8 @@ pub const BOOKS: usize = 16;
 pub fn evaluate_file(file: &[u8]) -> Result<Evaluation, Refusal> {
     Evaluation::told(boundary::evaluate_file(file))
 }
+
+/// README's example is run with the others.
+#[cfg(doctest)]
+#[doc = include_str!("../../../README.md")]
+struct Readme;

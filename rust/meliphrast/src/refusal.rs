@@ -12,13 +12,14 @@ use std::fmt;
 /// let refusal = register.read(3, Place { series: 1, set: 1, point: 1 }).unwrap_err();
 /// assert_eq!(refusal, Refusal::Closed);
 /// assert_eq!((refusal.number(), refusal.name()), (5, "CLOSED"));
-/// assert_eq!(refusal.to_string(), "5 CLOSED");
+/// assert_eq!(refusal.to_string(), "5 CLOSED: a call on a closed book, other than opening it");
 /// ```
 #[derive(Clone, Copy, Debug, Eq, Hash, PartialEq)]
+#[non_exhaustive]
 pub enum Refusal {
     /// 1: the bytes have a wrong length or are no register in form
     Register,
-    /// 2: book not 1 to 16, or place out of range
+    /// 2: book not 1 to 16, place out of range, or axis of a comparison not 1 or 2
     Place,
     /// 3: opening an open book
     Open,
@@ -58,6 +59,13 @@ pub struct Suspect {
 }
 
 /// What is screened in a set.
+///
+/// ```
+/// use meliphrast::Quantity;
+///
+/// assert_eq!(Quantity::try_from(Quantity::Height.number()), Ok(Quantity::Height));
+/// assert_eq!(Quantity::try_from(3).unwrap_err().to_string(), "no quantity has the number 3");
+/// ```
 #[derive(Clone, Copy, Debug, Eq, Hash, PartialEq)]
 pub enum Quantity {
     /// 1: the horizontal distance between the two points
@@ -65,6 +73,10 @@ pub enum Quantity {
     /// 2: their height difference
     Height,
 }
+
+/// A number that no quantity has.
+#[derive(Clone, Copy, Debug, Eq, Hash, PartialEq)]
+pub struct NoSuchQuantity(pub u64);
 
 impl Refusal {
     /// The number that the library gives, 1 to 14.
@@ -75,6 +87,26 @@ impl Refusal {
     /// The name that goes with the number, in capitals.
     pub fn name(self) -> &'static str {
         self.entry().1
+    }
+
+    /// When a call is turned away so.
+    pub fn when(self) -> &'static str {
+        match self {
+            Refusal::Register => "wrong length, or not in form",
+            Refusal::Place => "book not 1 to 16, place out of range, or axis not 1 or 2",
+            Refusal::Open => "opening an open book",
+            Refusal::Terms => "a term out of its range",
+            Refusal::Closed => "a call on a closed book, other than opening it",
+            Refusal::Filled => "entering at a filled place",
+            Refusal::Empty => "correcting, withdrawing or reading an empty place",
+            Refusal::Far => "a coordinate more than 100,000 from its point",
+            Refusal::Nothing => "taking back when there is no change to take back",
+            Refusal::Short => "residual, evaluation or comparison with any of 30 places empty",
+            Refusal::Suspect(_) => "evaluation or comparison of a book that fails screening",
+            Refusal::Zero => "comparison whose second book has sum 0 on that axis",
+            Refusal::Room => "list shorter than the number of books on it",
+            Refusal::Form => "file not of the form",
+        }
     }
 
     fn entry(self) -> (u64, &'static str) {
@@ -96,11 +128,19 @@ impl Refusal {
         }
     }
 
-    /// What a call's number says: nothing for 0, else the refusal. Series, set and quantity
-    /// count beside SUSPECT alone.
-    pub(crate) fn told(number: u64, named: [u64; 3]) -> Result<(), Refusal> {
-        Err(match number {
-            0 => return Ok(()),
+    /// The refusal of this number; series, set and quantity count beside SUSPECT alone. None for
+    /// an accepted call's 0, and where no refusal or no quantity has the number.
+    ///
+    /// ```
+    /// use meliphrast::{boundary, Refusal};
+    ///
+    /// let told = boundary::evaluate(&[0; meliphrast::LENGTH], 1);
+    /// let named = [told.series, told.set, told.quantity];
+    /// assert_eq!(Refusal::from_numbers(told.refusal, named), Some(Refusal::Closed));
+    /// assert_eq!(Refusal::from_numbers(0, named), None);
+    /// ```
+    pub fn from_numbers(number: u64, named: [u64; 3]) -> Option<Refusal> {
+        Some(match number {
             1 => Refusal::Register,
             2 => Refusal::Place,
             3 => Refusal::Open,
@@ -111,27 +151,35 @@ impl Refusal {
             8 => Refusal::Far,
             9 => Refusal::Nothing,
             10 => Refusal::Short,
-            11 => Refusal::Suspect(Suspect::named(named)),
+            11 => Refusal::Suspect(Suspect::named(named)?),
             12 => Refusal::Zero,
             13 => Refusal::Room,
             14 => Refusal::Form,
-            _ => panic!("the linked library gives a refusal {number}, unknown to this wrapper"),
+            _ => return None,
         })
+    }
+
+    /// What a call's numbers say: nothing for 0, else the refusal.
+    pub(crate) fn told(number: u64, named: [u64; 3]) -> Result<(), Refusal> {
+        if number == 0 {
+            return Ok(());
+        }
+        match Refusal::from_numbers(number, named) {
+            Some(refusal) => Err(refusal),
+            // No answer is better than one that this wrapper cannot name.
+            None => panic!("the linked library refuses with {number} {named:?}, unknown here"),
+        }
     }
 }
 
 impl Suspect {
-    fn named([series, set, quantity]: [u64; 3]) -> Suspect {
-        let quantity = if quantity == 1 {
-            Quantity::Distance
-        } else {
-            Quantity::Height
-        };
-        Suspect {
+    fn named([series, set, quantity]: [u64; 3]) -> Option<Suspect> {
+        let quantity = Quantity::try_from(quantity).ok()?;
+        Some(Suspect {
             series,
             set,
             quantity,
-        }
+        })
     }
 }
 
@@ -145,12 +193,25 @@ impl Quantity {
     }
 }
 
-/// Number and name, as `7 EMPTY`; SUSPECT goes on as `11 SUSPECT: series 2, set 3, distance`.
+impl TryFrom<u64> for Quantity {
+    type Error = NoSuchQuantity;
+
+    fn try_from(number: u64) -> Result<Quantity, NoSuchQuantity> {
+        match number {
+            1 => Ok(Quantity::Distance),
+            2 => Ok(Quantity::Height),
+            _ => Err(NoSuchQuantity(number)),
+        }
+    }
+}
+
+/// Number, name and when, as `3 OPEN: opening an open book`; SUSPECT goes on with
+/// ` (series 2, set 3, distance)`.
 impl fmt::Display for Refusal {
     fn fmt(&self, f: &mut fmt::Formatter<'_>) -> fmt::Result {
-        write!(f, "{} {}", self.number(), self.name())?;
+        write!(f, "{} {}: {}", self.number(), self.name(), self.when())?;
         match self {
-            Refusal::Suspect(suspect) => write!(f, ": {suspect}"),
+            Refusal::Suspect(suspect) => write!(f, " ({suspect})"),
             _ => Ok(()),
         }
     }
@@ -166,4 +227,12 @@ impl fmt::Display for Suspect {
     }
 }
 
+impl fmt::Display for NoSuchQuantity {
+    fn fmt(&self, f: &mut fmt::Formatter<'_>) -> fmt::Result {
+        write!(f, "no quantity has the number {}", self.0)
+    }
+}
+
 impl Error for Refusal {}
+
+impl Error for NoSuchQuantity {}

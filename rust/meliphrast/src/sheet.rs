@@ -18,6 +18,11 @@
 /// let mut register = Register::fresh();
 /// assert_eq!(register.open(1, Terms { sigma_h: 0, ..terms }), Err(Refusal::Terms));
 /// assert_eq!(register.open(1, terms), Ok(()));
+///
+/// // The same in the order of a file's TERMS line.
+/// let numbers = [100_000, 0, 150, 250, 20, 20, 0, 0, 0, 100_000, 0, 0];
+/// assert_eq!(Terms::from(numbers), terms);
+/// assert_eq!(terms.numbers(), numbers);
 /// ```
 #[derive(Clone, Copy, Debug, Eq, Hash, PartialEq)]
 pub struct Terms {
@@ -60,6 +65,25 @@ impl Terms {
     }
 }
 
+/// In the order of a file's TERMS line.
+impl From<[i64; 12]> for Terms {
+    fn from(numbers: [i64; 12]) -> Terms {
+        let [distance, height, s_xy, s_h, sigma_xy, sigma_h, points @ ..] = numbers;
+        let [x1, y1, h1, x2, y2, h2] = points;
+        let point = |x, y, h| Point { x, y, h };
+        Terms {
+            distance,
+            height,
+            s_xy,
+            s_h,
+            sigma_xy,
+            sigma_h,
+            point_1: point(x1, y1, h1),
+            point_2: point(x2, y2, h2),
+        }
+    }
+}
+
 /// Approximate X, Y and H of a point, each -100,000,000,000 to 100,000,000,000.
 #[derive(Clone, Copy, Debug, Eq, Hash, PartialEq)]
 pub struct Point {
@@ -82,25 +106,45 @@ pub struct Place {
     pub point: u64,
 }
 
+/// What belongs to the procedure: series, sets in each, points in each set.
+const SERIES: u8 = 3;
+const SETS: u8 = 5;
+const POINTS: u8 = 2;
+
 impl Place {
     /// The thirty places in sheet order: series, then set, then point.
     ///
     /// ```
     /// use meliphrast::Place;
     ///
-    /// let places: Vec<Place> = Place::sheet().collect();
+    /// let places = Place::sheet();
     /// assert_eq!(places.len(), 30);
-    /// assert_eq!(places[1], Place { series: 1, set: 1, point: 2 });
-    /// assert!(places.is_sorted());
+    /// assert!(places.clone().is_sorted());
+    /// assert_eq!(places.clone().nth(1), Some(Place { series: 1, set: 1, point: 2 }));
+    /// assert_eq!(places.rev().next(), Some(Place { series: 3, set: 5, point: 2 }));
     /// ```
-    pub fn sheet() -> impl Iterator<Item = Place> {
-        (1..=3).flat_map(|series| {
-            (1..=5).flat_map(move |set| (1..=2).map(move |point| Place { series, set, point }))
+    pub fn sheet() -> impl ExactSizeIterator<Item = Place> + DoubleEndedIterator + Clone {
+        (0..SERIES * SETS * POINTS).map(|index| {
+            let (set, point) = (index / POINTS, index % POINTS);
+            Place::from([set / SETS, set % SETS, point].map(|from_0| u64::from(from_0) + 1))
         })
     }
 
     pub(crate) fn numbers(self) -> [u64; 3] {
         [self.series, self.set, self.point]
+    }
+}
+
+/// Series, set and point.
+///
+/// ```
+/// use meliphrast::Place;
+///
+/// assert_eq!(Place::from([2, 4, 1]), Place { series: 2, set: 4, point: 1 });
+/// ```
+impl From<[u64; 3]> for Place {
+    fn from([series, set, point]: [u64; 3]) -> Place {
+        Place { series, set, point }
     }
 }
 

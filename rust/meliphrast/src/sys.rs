@@ -5,10 +5,24 @@
 //! refusal every other field is zero, but for series, set and quantity beside SUSPECT (11).
 //!
 //! [`boundary`](crate::boundary) has the same calls over slices, safe to make.
+//!
+//! # Safety
+//!
+//! The library answers any bytes and any numbers. For the slices the caller answers:
+//!
+//! * The bytes can be read for all of the length, and written where the pointer is `*mut`.
+//! * No pointer is null, not even one with a length of 0. It can be at any address: bytes have no
+//!   alignment to keep.
+//! * Register and list have no byte in common.
+//! * During a call nobody else writes to its slices, nor reads those that it may write.
+//!
+//! The library keeps nothing between calls, no pointer among it: on different registers they can
+//! run side by side, and so can calls that only read the same one.
 
 /// x, y and h in units: a reading, or fifteen times a residual.
 #[repr(C)]
 #[derive(Clone, Copy, Debug, Default, Eq, PartialEq)]
+#[must_use = "a refusal is told in it alone"]
 pub struct Lengths {
     /// 0, or the number of the refusal
     pub refusal: u64,
@@ -23,6 +37,7 @@ pub struct Lengths {
 /// How many changes can be taken back, or how many books are on the list.
 #[repr(C)]
 #[derive(Clone, Copy, Debug, Default, Eq, PartialEq)]
+#[must_use = "a refusal is told in it alone"]
 pub struct Count {
     /// 0, or the number of the refusal
     pub refusal: u64,
@@ -59,6 +74,7 @@ pub struct Mark {
 /// An evaluated book or file.
 #[repr(C)]
 #[derive(Clone, Copy, Debug, Default, PartialEq)]
+#[must_use = "a refusal is told in it alone"]
 pub struct Evaluation {
     /// 0, or the number of the refusal
     pub refusal: u64,
@@ -79,6 +95,7 @@ pub struct Evaluation {
 /// Two compared books.
 #[repr(C)]
 #[derive(Clone, Copy, Debug, Default, Eq, PartialEq)]
+#[must_use = "a refusal is told in it alone"]
 pub struct Comparison {
     /// 0, or the number of the refusal
     pub refusal: u64,

@@ -5,7 +5,12 @@
 #include <string.h>
 
 #define SIZE(record) printf("%s %zu\n", #record, sizeof(record))
-#define FIELD(record, field) printf("%s.%s %zu\n", #record, #field, offsetof(record, field))
+#define FIELD(record, field)                                                                      \
+    printf("%s.%s %s %zu\n", #record, #field, TYPE(((record *)0)->field), offsetof(record, field))
+/* A field's type by its Rust name. */
+#define TYPE(field)                                                                               \
+    _Generic((field), uint64_t: "u64", int64_t: "i64", double: "f64", rtk_sheet: "Sheet",         \
+             rtk_mark: "Mark")
 #define NUMBER(name) printf("%s %d\n", #name, (int)name)
 
 static void records(void)

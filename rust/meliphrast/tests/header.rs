@@ -1,9 +1,10 @@
 //! The C header and the Rust declarations say the same, and C reaches the library through it.
 
 use meliphrast::sys::{Comparison, Count, Evaluation, Lengths, Mark, Sheet};
-use meliphrast::{Axis, Quantity, Refusal, Suspect, BOOKS, LENGTH};
+use meliphrast::{Axis, Quantity, Refusal, BOOKS, LENGTH};
+use std::any::type_name;
 use std::mem::{offset_of, size_of};
-use std::path::Path;
+use std::path::{Path, PathBuf};
 use std::process::Command;
 
 const HEADER: &str = include_str!("../../../include/meliphrast.h");
@@ -13,10 +14,20 @@ macro_rules! record {
     ($name:literal, $record:ty, $($field:ident)*) => {{
         let mut lines = vec![format!("{} {}", $name, size_of::<$record>())];
         $(lines.push(format!(
-            "{}.{} {}", $name, stringify!($field), offset_of!($record, $field)
+            "{}.{} {} {}",
+            $name,
+            stringify!($field),
+            type_of(|record: &$record| &record.$field),
+            offset_of!($record, $field)
         ));)*
         lines
     }};
+}
+
+/// The name of a field's type, without the module that it is from.
+fn type_of<R, F>(_: fn(&R) -> &F) -> &'static str {
+    let name = type_name::<F>();
+    name.rsplit("::").next().unwrap_or(name)
 }
 
 fn records() -> Vec<String> {
@@ -32,27 +43,7 @@ fn records() -> Vec<String> {
 }
 
 fn numbers() -> Vec<String> {
-    let suspect = Suspect {
-        series: 1,
-        set: 1,
-        quantity: Quantity::Distance,
-    };
-    let refusals = [
-        Refusal::Register,
-        Refusal::Place,
-        Refusal::Open,
-        Refusal::Terms,
-        Refusal::Closed,
-        Refusal::Filled,
-        Refusal::Empty,
-        Refusal::Far,
-        Refusal::Nothing,
-        Refusal::Short,
-        Refusal::Suspect(suspect),
-        Refusal::Zero,
-        Refusal::Room,
-        Refusal::Form,
-    ];
+    let refusals = (1..=14).filter_map(|number| Refusal::from_numbers(number, [1, 1, 1]));
     let mut lines = vec![
         format!("RTK_LENGTH {LENGTH}"),
         format!("RTK_BOOKS {BOOKS}"),
@@ -84,25 +75,39 @@ const CALLS: [&str; 14] = [
     "length 29696",
 ];
 
+/// The C compiler, as strict as it can be made; the header's folder is known to it.
+fn strict_cc(standard: &str) -> Command {
+    let mut cc = Command::new("cc");
+    cc.args([standard, "-Wall", "-Wextra", "-Werror", "-pedantic", "-I"]);
+    cc.arg(folder().join("../../include"));
+    cc
+}
+
+fn folder() -> &'static Path {
+    Path::new(env!("CARGO_MANIFEST_DIR"))
+}
+
 #[test]
 fn c_prints_the_same() {
-    let folder = Path::new(env!("CARGO_MANIFEST_DIR"));
     let program = Path::new(env!("CARGO_TARGET_TMPDIR")).join("header");
-    let built = Command::new("cc")
-        .args(["-std=c99", "-Wall", "-Wextra", "-Werror", "-pedantic", "-I"])
-        .arg(folder.join("../../include"))
-        .arg(folder.join("tests/header.c"))
-        .arg(env!("MELIPHRAST_ARCHIVE"))
-        .arg("-o")
-        .arg(&program)
-        .status()
-        .expect("cc compiles the header");
-    assert!(built.success());
+    let mut cc = strict_cc("-std=c11");
+    cc.arg(folder().join("tests/header.c"));
+    cc.arg(env!("MELIPHRAST_ARCHIVE")).arg("-o").arg(&program);
+    assert!(cc.status().expect("cc compiles the program").success());
     let printed = Command::new(&program).output().expect("the program runs");
     let printed = String::from_utf8(printed.stdout).expect("plain text");
     let calls = CALLS.map(str::to_string).to_vec();
     let expected = [records(), numbers(), calls].concat();
     assert_eq!(printed.lines().collect::<Vec<_>>(), expected);
+}
+
+/// The test's program is C11; the header asks for less.
+#[test]
+fn the_header_is_c99() {
+    let mut cc = strict_cc("-std=c99");
+    cc.args(["-fsyntax-only", "-x", "c"]);
+    cc.arg(folder().join("../../include/meliphrast.h"));
+    assert!(cc.status().expect("cc compiles the header").success());
 }
 
 /// C's types by their Rust names.
@@ -165,6 +170,43 @@ fn every_function_is_declared_alike() {
     let functions = c_functions();
     assert_eq!(functions.len(), 16);
     assert_eq!(functions, rust_functions());
+}
+
+/// The archive that is linked, and the library behind it where that is a stand-in.
+fn archives() -> Vec<PathBuf> {
+    let mut archives = vec![PathBuf::from(env!("MELIPHRAST_ARCHIVE"))];
+    if !cfg!(target_arch = "x86_64") {
+        archives.push(folder().join("../../target/library/libmeliphrast.a"));
+    }
+    archives
+}
+
+/// What an archive defines for whoever links it, in the order of the alphabet.
+fn exported(archive: &Path) -> Vec<String> {
+    let mut nm = Command::new("nm");
+    let listed = nm.args(["-g", "--defined-only", "-P"]).arg(archive);
+    let listed = listed.output().expect("nm lists the archive");
+    assert!(listed.status.success(), "nm {}", archive.display());
+    let listed = String::from_utf8(listed.stdout).expect("plain text");
+    // `-P` puts the name first; an object's own heading ends in a colon.
+    let lines = listed.lines().filter(|line| !line.ends_with(':'));
+    let names = lines.filter_map(|line| line.split_once(' '));
+    let mut names: Vec<String> = names.map(|(name, _)| name.to_string()).collect();
+    names.sort();
+    names
+}
+
+#[test]
+fn the_archive_exports_what_the_header_declares() {
+    let functions = c_functions();
+    let names = functions
+        .iter()
+        .filter_map(|declared| declared.split_once('('));
+    let mut names: Vec<&str> = names.map(|(name, _)| name).collect();
+    names.sort();
+    for archive in archives() {
+        assert_eq!(exported(&archive), names, "{}", archive.display());
+    }
 }
 
 #[test]

@@ -71,6 +71,20 @@ fn k3_and_k4_distances() {
     }
 }
 
+/// The screening's s does not come into the figures: from s_xy 59 on d 206, K3's, passes.
+#[test]
+fn annex_a_three_times_over() {
+    let thrice = evaluate_file(include_bytes!("../../../examples/annex_a_thrice.field")).unwrap();
+    assert_eq!(thrice.xy, within(7452, 17712));
+    assert_eq!(thrice.h, within(6331, 31106));
+    assert!(thrice.passes());
+    let at_limit = include_bytes!("../../../examples/annex_a_at_limit.field");
+    assert_eq!(evaluate_file(at_limit), Ok(thrice));
+    let suspected = include_bytes!("../../../examples/annex_a_suspect.field");
+    let refused = suspect(1, 1, Quantity::Distance);
+    assert_eq!(evaluate_file(suspected), Err(refused));
+}
+
 /// Thirty readings on their points, which are so far apart on x and y.
 fn full_file(nominal: i64, s_xy: i64, [dx, dy]: [i64; 2]) -> Vec<u8> {
     let mut text = String::from("CONTENTS 4\nTERMS 1\nSERIES1 10\nSERIES2 10\nSERIES3 10\n");

@@ -12,6 +12,9 @@ use std::{fs, path::PathBuf};
 
 const BIAS: i64 = 1_000_000_000_000;
 
+/// As many as README tells of.
+const EXAMPLES: usize = 58;
+
 fn examples() -> PathBuf {
     PathBuf::from(env!("CARGO_MANIFEST_DIR")).join("../../examples")
 }
@@ -35,7 +38,7 @@ fn every_example_gives_its_expected_report() {
             seen += 1;
         }
     }
-    assert!(seen >= 50, "only {seen} examples");
+    assert_eq!(seen, EXAMPLES);
 }
 
 #[test]
@@ -91,6 +94,28 @@ fn annex_a_deviations() {
     assert_eq!(refusal, 0);
     let expected = [(206, 110), (26, 40), (-16, 100), (-101, 140), (23, 0)];
     assert_eq!(set_deviations(&book, 5), expected);
+}
+
+#[test]
+fn annex_a_three_times_over() {
+    let given = evaluate_file(&example("annex_a_thrice"));
+    let sheet = [
+        given.sheet.s_x,
+        given.sheet.s_y,
+        given.sheet.s_xy,
+        given.sheet.s_h,
+    ];
+    assert_eq!(sheet, [5624.0, 4889.0, 7452.0, 6331.0].map(|m| m / 1024.0));
+    // The screening's s does not come into the figures: it passes from s_xy 59 on, by d 206.
+    assert_eq!(evaluate_file(&example("annex_a_at_limit")), given);
+    let named = Evaluation {
+        refusal: 11,
+        series: 1,
+        set: 1,
+        quantity: 1,
+        ..Evaluation::default()
+    };
+    assert_eq!(evaluate_file(&example("annex_a_suspect")), named);
 }
 
 #[test]

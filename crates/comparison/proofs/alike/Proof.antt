@@ -2,7 +2,6 @@
 use native.Mathlib.Omega.{arith}
 use native.Mathlib.Nat.{mul-le-mul}
 use borrow.Author.Needs.{needs}
-use Rattle.comparison.proofs.Comparing.{alike-is, unlike-is}
 use Rattle.comparison.proofs.alike.Statement.{statement}
 use Rattle.comparison.proofs.alike.Tie as tie
 
@@ -16,10 +15,7 @@ mul-most : tie.Need-mul-most
 mul-most c = omega (arith, mul-le-mul (c .pre .1) (c .pre .3))
 
 returns : tie.Need-returns
-returns c = alike-is _ _ _ _ (c .if1 .taken)
-
-returns-2 : tie.Need-returns-2
-returns-2 c = unlike-is _ _ _ _ (c .if1 .left)
+returns c = search needs
 
 pub alike-spec : {M : Type 1} → statement M
-alike-spec = tie.close (tie.spec mul-middle mul-least mul-most returns returns-2)
+alike-spec = tie.close (tie.spec mul-middle mul-least mul-most returns)

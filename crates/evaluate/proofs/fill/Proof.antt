@@ -1,8 +1,8 @@
 use borrow.Author.Needs.{needs}
-use Prim.Native.Nat.{_≤_}
+use Prim.Native.Nat.{_+_, _≤_}
 use native.Mathlib.Omega.{arith}
 use mathlib.Core.Path.{_≡_, subst}
-use Prim.Native.Nat.{_+_}
+use Rattle.fieldfile.specs.Form.{LONGEST}
 use Rattle.evaluate.specs.declared.Got.{Got}
 use Rattle.evaluate.specs.declared.Got.the-variants.{Bytes}
 use Rattle.evaluate.specs.Input.{Ends}
@@ -12,14 +12,14 @@ use Rattle.evaluate.proofs.fill.Tie as tie
 
 abbrev Inv-loop : tie.InvT-loop
 Inv-loop buffer₀ len₀ turns₀ buffer len turns =
-    (len ≤ 4097) × (length buffer ≡ 4097)
+    (len ≤ LONGEST + 1) × (length buffer ≡ LONGEST + 1)
 
 abbrev μ-loop : tie.MeasureT-loop
 μ-loop buffer₀ len₀ turns₀ buffer len turns =
     turns
 
 -- what came lies within the buffer
-bound : (c : tie.Else1 Inv-loop μ-loop) → c .before .before .before .before .before .before .before .before .next-place .result + c .before .before .n .given .0 .0 ≤ 4097
+bound : (c : tie.Else1 Inv-loop μ-loop) → c .before .before .before .before .before .before .before .before .next-place .result + c .before .before .n .given .0 .0 ≤ LONGEST + 1
 bound c =
     let l = c .before .before .before .before .before .before .before .before .before .before .loop .inv .1 in
     let e : Ends (Bytes (c .before .before .n .given .0 .0)) (c .before .before .before .before .before .before .before .before .next-place .result) (length (c .before .before .before .before .before .before .before .before .before .before .loop .buffer)) =

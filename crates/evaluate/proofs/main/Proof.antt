@@ -1,8 +1,9 @@
-use Prim.Native.Nat.{_≤_}
+use Prim.Native.Nat.{_+_, _≤_}
 use native.Mathlib.Omega.{arith}
 use mathlib.Core.Path.{_≡_, sym, subst}
 use lib.ListN.{length}
 use lib.Seq.{length-take-le}
+use Rattle.fieldfile.specs.Form.{LONGEST}
 use Rattle.evaluate.specs.declared.Got.{Got}
 use Rattle.evaluate.specs.declared.Got.the-variants.{Bytes}
 use Rattle.evaluate.specs.Input.{Ends}
@@ -33,14 +34,14 @@ returns c = search needs
 
 array-share-prefix-buffer : tie.Need-array-share-prefix-buffer
 array-share-prefix-buffer c =
-    let e : Ends (Bytes (c .before .n .given .0 .0)) 0 4097 = subst (λ (g : Got). Ends g 0 4097) (c .before .n .given .1) (c .before .before .before .before .fill .ensures) in
-    let l : length (c .before .before .before .before .fill .last .0) ≡ 4097 = search needs in
+    let e : Ends (Bytes (c .before .n .given .0 .0)) 0 (LONGEST + 1) = subst (λ (g : Got). Ends g 0 (LONGEST + 1)) (c .before .n .given .1) (c .before .before .before .before .fill .ensures) in
+    let l : length (c .before .before .before .before .fill .last .0) ≡ LONGEST + 1 = search needs in
     omega (arith, e, l)
 
 slice-aggregate-print : tie.Need-slice-aggregate-print
 slice-aggregate-print c =
-    let e : Ends (Bytes (c .before .before .n .given .0 .0)) 0 4097 = subst (λ (g : Got). Ends g 0 4097) (c .before .before .n .given .1) (c .before .before .before .before .before .fill .ensures) in
-    let l : length (c .before .before .before .before .before .fill .last .0) ≡ 4097 = search needs in
+    let e : Ends (Bytes (c .before .before .n .given .0 .0)) 0 (LONGEST + 1) = subst (λ (g : Got). Ends g 0 (LONGEST + 1)) (c .before .before .n .given .1) (c .before .before .before .before .before .fill .ensures) in
+    let l : length (c .before .before .before .before .before .fill .last .0) ≡ LONGEST + 1 = search needs in
     let h : c .before .before .n .given .0 .0 ≤ length (c .before .before .before .before .before .fill .last .0) = omega (arith, e, l) in
     sym (length-take-le _ _ h)
 

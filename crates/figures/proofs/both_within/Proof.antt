@@ -2,7 +2,7 @@
 use native.Mathlib.Omega.{arith}
 use borrow.Author.Needs.{needs}
 use Rattle.image.specs.Lengths.{termsOf}
-use Rattle.figures.proofs.Judging.{by-h, xy-beyond}
+use Rattle.figures.proofs.Judging.{both-is}
 use Rattle.figures.proofs.both_within.Statement.{statement}
 use Rattle.figures.proofs.both_within.Tie as tie
 
@@ -26,12 +26,7 @@ within-by-requires-2 c κs =
 returns : tie.Need-returns
 unfolding termsOf
 returns c =
-    by-h _ _ _ _ _ (c .before .before .before .before .before .sums .ensures .0) (c .before .before .before .within-by .ensures) (c .before .within-by2 .ensures) (c .if1 .taken)
-
-returns-2 : tie.Need-returns-2
-unfolding termsOf
-returns-2 c =
-    xy-beyond _ _ _ _ _ (c .before .before .before .before .before .sums .ensures .0) (c .before .before .before .within-by .ensures) (c .before .within-by2 .ensures) (c .if1 .left)
+    both-is _ _ _ _ _ (c .before .before .before .before .sums .ensures .0) (c .before .before .within-by .ensures) (c .within-by2 .ensures)
 
 pub both-within-spec : {M : Type 1} → statement M
 both-within-spec =
@@ -42,5 +37,4 @@ both-within-spec =
     within-by-requires
     element-copy-out-within-by-2
     within-by-requires-2
-    returns
-    returns-2)
+    returns)

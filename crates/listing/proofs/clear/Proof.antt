@@ -4,7 +4,8 @@ use native.Mathlib.Omega.{arith}
 use mathlib.Core.Path.{_≡_, refl}
 use mathlib.Core.List.{_++_}
 use lib.ListN.{length, drop, replicate, length-set}
-use Rattle.listing.proofs.Turns.{clear-turn, cleared-all}
+use borrow.Author.Fill.{fill-more}
+use Rattle.listing.proofs.Turns.{cleared-all}
 use Rattle.listing.proofs.clear.Statement.{statement}
 use Rattle.listing.proofs.clear.Tie as tie
 
@@ -35,7 +36,7 @@ loop-again c =
     let h : c .before .loop .i < length (s .args .bytes .now) = omega arith in (
       omega arith,
       simp length-set (omega arith),
-      rw (c .before .loop .inv .2) (clear-turn (s .args .bytes .now) (c .before .loop .i) h),
+      rw (c .before .loop .inv .2) (fill-more (c .before .loop .i) 0 (s .args .bytes .now) h),
     )
 
 same-length : tie.Need-same-length Inv-loop μ-loop

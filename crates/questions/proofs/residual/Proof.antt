@@ -5,7 +5,7 @@ use Rattle.form.proofs.Laws.{known}
 use Rattle.places.proofs.Meets.{ready}
 use Rattle.book.specs.declared.Aim.{Aim}
 use Rattle.book.proofs.Meaning.{Sized}
-use Rattle.book.proofs.Steps.{place-small}
+use Rattle.book.proofs.Sought.{place-small}
 use Rattle.questions.proofs.Opened.{words-formed}
 use Rattle.questions.proofs.Asks.{residual-refused, aimed, on-opened, residual-short, residual-full}
 use borrow.Author.Needs.{needs}

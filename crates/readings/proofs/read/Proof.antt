@@ -8,7 +8,7 @@ use Rattle.paper.specs.Procedure.{PLACES}
 use Rattle.paper.specs.Units.{Place, isEmpty}
 use Rattle.image.specs.Places.{spotAt}
 use Rattle.book.proofs.Meaning.{Sized}
-use Rattle.book.proofs.Steps.{On, place-small}
+use Rattle.book.proofs.Sought.{On, place-small}
 use Rattle.readings.proofs.Asks.{read-refused, read-on, read-full, read-bound, lengths-same}
 use borrow.Author.Needs.{needs}
 use Rattle.readings.proofs.read.Statement.{statement}

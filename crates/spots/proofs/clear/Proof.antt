@@ -3,7 +3,7 @@
 use native.Mathlib.Omega.{arith}
 use borrow.Author.Needs.{needs}
 use lib.ListN.{length-set}
-use Rattle.spots.proofs.Steps.{three-set}
+use Rattle.words.proofs.Paste.{three-pasted}
 use Rattle.spots.proofs.clear.Statement.{statement}
 use Rattle.spots.proofs.clear.Tie as tie
 
@@ -38,7 +38,7 @@ same-length c = search needs
 
 returns : tie.Need-returns
 returns c =
-    three-set (c .args .cells .now) (c .args .base) 0 0 0 (c .pre)
+    three-pasted (c .args .cells .now) (c .args .base) 0 0 0 (c .pre)
 
 pub clear-spec : {M : Type 1} → statement M
 clear-spec =

@@ -2,6 +2,7 @@ use mir.Syntax.{w64}
 use mir.Val.{Fits}
 use Prim.Native.Nat.{ℕ, _-_, _*_, _≤_, _<_}
 use native.Mathlib.Omega.{arith}
+use mathlib.Core.Path.{_∙_}
 use lib.ListN.{getD}
 use borrow.Author.Needs.{needs}
 use Rattle.paper.specs.Procedure.{PLACES}
@@ -74,14 +75,17 @@ element-copy-out-h c = search needs
 change-ok-requires : tie.Need-change-ok-requires Inv-loop μ-loop
 change-ok-requires c κs = search needs
 
+all-zero-requires : tie.Need-all-zero-requires Inv-loop μ-loop
+all-zero-requires c κs = search needs
+
 mark-requires : tie.Need-mark-requires Inv-loop μ-loop
 mark-requires c κs = search needs
 
 mul-marks : tie.Need-mul-marks Inv-loop μ-loop
-mul-marks c = scaled (reached (c .before))
+mul-marks c = scaled (reached (c .before .before))
 
 array-write-marks : tie.Need-array-write-marks Inv-loop μ-loop
-array-write-marks c = reached (c .before)
+array-write-marks c = reached (c .before .before)
 
 add-j : tie.Need-add-j Inv-loop μ-loop
 add-j c = search needs
@@ -91,10 +95,10 @@ loop-less c = search needs
 
 loop-again : tie.Need-loop-again Inv-loop μ-loop
 loop-again c =
-    let s = c .before .before .before .before .before .before .before .before .before .before .before .before .before in
-    let at = c .before .before .before .before .before .before .before .before .before .loop in
+    let s = c .before .before .before .before .before .before .before .before .before .before .before .before .before .before in
+    let at = c .before .before .before .before .before .before .before .before .before .before .loop in
     let h : at .j < s .args .kept = omega arith in
-    (omega arith, stands-on (termsOf (s .args .t .now)) (placesOf (s .args .cells .now)) (s .args .changes .now) (s .args .kept) (at .marks) (at .j) (at .inv .1) (c .mark .result) h (c .before .before .change-ok .ensures) (c .before .if1 .taken) (c .mark .ensures))
+    (omega arith, stands-on (termsOf (s .args .t .now)) (placesOf (s .args .cells .now)) (s .args .changes .now) (s .args .kept) (at .marks) (at .j) (at .inv .1) (c .mark .result) h (c .before .before .before .change-ok .ensures) (c .before .before .if1 .taken) (c .mark .ensures ∙ c .before .all-zero .ensures))
 
 returns : tie.Need-returns Inv-loop μ-loop
 returns c =
@@ -132,6 +136,7 @@ all-stand-spec =
     mul-h
     element-copy-out-h
     change-ok-requires
+    all-zero-requires
     mark-requires
     mul-marks
     array-write-marks

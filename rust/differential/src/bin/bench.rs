@@ -67,17 +67,17 @@ fn time(nanoseconds: f64) -> String {
 }
 
 /// Nanoseconds of one turn, the library's and the second implementation's.
-fn timed(mut case: Case) -> [f64; 2] {
-    let mut times = [Vec::new(), Vec::new()];
-    for _ in 0..ROUNDS {
-        for (work, times) in [&mut case.library, &mut case.second]
-            .into_iter()
-            .zip(&mut times)
-        {
+fn timed(case: Case) -> [f64; 2] {
+    let mut sides = [case.library, case.second].map(|work| (work, Vec::new()));
+    for number in 0..ROUNDS {
+        // Turn about here too, in case it matters who goes first.
+        let first = number % 2;
+        for side in [first, 1 - first] {
+            let (work, times) = &mut sides[side];
             times.push(round(work, case.turns));
         }
     }
-    times.map(|mut times| {
+    sides.map(|(_, mut times)| {
         times.sort();
         times[ROUNDS / 2].as_nanos() as f64 / case.turns as f64
     })
@@ -137,17 +137,13 @@ fn read(register: &[u8]) -> Case {
         turns: 50_000,
         library: Box::new(move |turn| {
             let (place, _) = correction(turn);
-            black_box(boundary::read(black_box(&ours), book_of(turn), place));
+            let read = boundary::read(black_box(&ours), book_of(turn), place);
+            assert_eq!(black_box(read).refusal, 0);
         }),
         second: Box::new(move |turn| {
             let ([a, b, c], _) = correction(turn);
-            black_box(written_again::read(
-                black_box(&theirs),
-                book_of(turn),
-                a,
-                b,
-                c,
-            ));
+            let read = written_again::read(black_box(&theirs), book_of(turn), a, b, c);
+            assert_eq!(black_box(read).refusal, 0);
         }),
     }
 }
@@ -194,12 +190,14 @@ fn pass_list(register: &[u8]) -> Case {
         turns: 10_000,
         library: Box::new(move |_| {
             let mut list = [0; BOOKS];
-            black_box(boundary::pass_list(black_box(&ours), &mut list));
+            let listed = boundary::pass_list(black_box(&ours), &mut list);
+            assert_eq!(black_box(listed).refusal, 0);
             black_box(list);
         }),
         second: Box::new(move |_| {
             let mut list = [0; BOOKS];
-            black_box(written_again::pass_list(black_box(&theirs), &mut list));
+            let listed = written_again::pass_list(black_box(&theirs), &mut list);
+            assert_eq!(black_box(listed).refusal, 0);
             black_box(list);
         }),
     }

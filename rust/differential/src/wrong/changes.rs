@@ -27,6 +27,8 @@ pub fn wrong_programs() -> Vec<Wrong> {
         Wrong::new("TERMS before OPEN", terms_before_open),
         Wrong::new("CLOSED before PLACE", closed_before_place),
         Wrong::new("book numbers cut to 32 bits", book_cut),
+        Wrong::new("nominal values and deviations cut to 32 bits", terms_cut),
+        Wrong::new("offsets cut to 32 bits", offsets_cut),
         Wrong::new("residuals with the other sign", residual_negated),
     ]
 }
@@ -110,15 +112,20 @@ fn one_more(call: &Call, desk: &mut Desk) -> Answer {
     answer
 }
 
-/// How far a call's reading is from its point, where the book has one.
-fn reach(call: &Call, desk: &Desk) -> Option<u64> {
+/// How far a call's reading is from its point on each axis, where the book has one.
+fn offsets(call: &Call, desk: &Desk) -> Option<[i64; 3]> {
     let (Call::Enter(book, place, reading) | Call::Correct(book, place, reading)) = *call else {
         return None;
     };
     let image = Image::of(desk.register.bytes(), book)?;
     let point: Reading = recipe::point(&image.terms(), place[2] as usize - 1);
-    let away = (0..3).map(|axis| reading[axis].abs_diff(point[axis]));
-    away.max()
+    Some([0, 1, 2].map(|axis| reading[axis].wrapping_sub(point[axis])))
+}
+
+/// The farthest of them.
+fn reach(call: &Call, desk: &Desk) -> Option<u64> {
+    let away = offsets(call, desk)?.map(i64::unsigned_abs);
+    away.into_iter().max()
 }
 
 fn reaching_further(call: &Call, desk: &mut Desk) -> Answer {
@@ -187,6 +194,28 @@ fn book_cut(call: &Call, desk: &mut Desk) -> Answer {
         Call::Evaluate(book) => right(&Call::Evaluate(u64::from(book as u32)), desk),
         _ => right(call, desk),
     }
+}
+
+/// The terms that have room in 32 bits: all but the coordinates.
+fn terms_cut(call: &Call, desk: &mut Desk) -> Answer {
+    let Call::Open(book, mut terms) = *call else {
+        return right(call, desk);
+    };
+    for term in &mut terms[..6] {
+        *term = i64::from(*term as i32);
+    }
+    right(&Call::Open(book, terms), desk)
+}
+
+fn offsets_cut(call: &Call, desk: &mut Desk) -> Answer {
+    let answer = right(call, desk);
+    if answer.refusal == 8 {
+        let near = |offset: i64| (offset as i32).unsigned_abs() <= 100_000;
+        if offsets(call, desk).is_some_and(|offsets| offsets.into_iter().all(near)) {
+            return Answer::default();
+        }
+    }
+    answer
 }
 
 fn residual_negated(call: &Call, desk: &mut Desk) -> Answer {

@@ -13,6 +13,7 @@ pub fn wrong_programs() -> Vec<Wrong> {
         Wrong::new("ZERO by the first book", zero_by_the_first),
         Wrong::new("same only between the limits", only_between),
         Wrong::new("axis 0 taken for xy", any_axis),
+        Wrong::new("the axis cut to 32 bits", axis_cut),
     ]
 }
 
@@ -72,6 +73,15 @@ fn only_between(call: &Call, desk: &mut Desk) -> Answer {
 fn any_axis(call: &Call, desk: &mut Desk) -> Answer {
     match *call {
         Call::Compare(first, second, 0) => right(&Call::Compare(first, second, 1), desk),
+        _ => right(call, desk),
+    }
+}
+
+fn axis_cut(call: &Call, desk: &mut Desk) -> Answer {
+    match *call {
+        Call::Compare(first, second, axis) => {
+            right(&Call::Compare(first, second, u64::from(axis as u32)), desk)
+        }
         _ => right(call, desk),
     }
 }

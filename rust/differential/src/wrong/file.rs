@@ -21,6 +21,9 @@ pub fn wrong_programs() -> Vec<Wrong> {
             let last = file.iter().rposition(|byte| *byte == b'\n');
             file[..last.map_or(0, |last| last + 1)].to_vec()
         }),
+        reading("the file's length cut to 16 bits", |file| {
+            file[..usize::from(file.len() as u16)].to_vec()
+        }),
         Wrong::new("FAR before TERMS", far_before_terms),
         Wrong::new("SHORT before FAR", short_before_far),
     ]

@@ -19,6 +19,7 @@ pub fn wrong_programs() -> Vec<Wrong> {
         }),
         Wrong::new("book 16 not looked at", last_unseen),
         Wrong::new("a longer register in form", longer_in_form),
+        Wrong::new("the register's length cut to 16 bits", length_cut),
         Wrong::new("fresh only over a register in form", fresh_in_form),
     ]
 }
@@ -68,6 +69,16 @@ fn last_unseen(call: &Call, desk: &mut Desk) -> Answer {
 fn longer_in_form(call: &Call, desk: &mut Desk) -> Answer {
     match desk.register.bytes().get(..LENGTH) {
         Some(register) if *call == Call::Check => right(call, &mut Desk::with(register, 0)),
+        _ => right(call, desk),
+    }
+}
+
+fn length_cut(call: &Call, desk: &mut Desk) -> Answer {
+    let length = usize::from(desk.register.bytes().len() as u16);
+    match desk.register.bytes().get(..LENGTH) {
+        Some(register) if *call == Call::Check && length == LENGTH => {
+            right(call, &mut Desk::with(register, 0))
+        }
         _ => right(call, desk),
     }
 }

@@ -14,6 +14,9 @@ pub fn wrong_programs() -> Vec<Wrong> {
         Wrong::new("the bytes behind the list cleared", cleared_behind),
         Wrong::new("ROOM for any list under sixteen bytes", room_for_sixteen),
         Wrong::new("a refused list begun", begun),
+        Wrong::new("twelve books at most on the list", twelve_at_most),
+        Wrong::new("ROOM never met from fifteen bytes on", room_from_fifteen),
+        Wrong::new("the list's length cut to 16 bits", length_cut),
     ]
 }
 
@@ -120,4 +123,35 @@ fn begun(call: &Call, desk: &mut Desk) -> Answer {
         desk.list.bytes_mut().copy_from_slice(&books[..*room]);
     }
     answer
+}
+
+fn twelve_at_most(call: &Call, desk: &mut Desk) -> Answer {
+    match call {
+        Call::PassList(_) => {
+            let mut books = listed(desk);
+            books.truncate(12);
+            write(desk, &books, call)
+        }
+        _ => right(call, desk),
+    }
+}
+
+fn room_from_fifteen(call: &Call, desk: &mut Desk) -> Answer {
+    let answer = right(call, desk);
+    match call {
+        Call::PassList(room @ 15..) if answer.refusal == 13 => {
+            let books = listed(desk);
+            desk.list.bytes_mut().copy_from_slice(&books[..*room]);
+            Answer::count(0, *room as u64)
+        }
+        _ => answer,
+    }
+}
+
+fn length_cut(call: &Call, desk: &mut Desk) -> Answer {
+    let answer = right(call, &mut desk.clone());
+    match call {
+        Call::PassList(room) if answer.words[0] > u64::from(*room as u16) => Answer::number(13),
+        _ => right(call, desk),
+    }
 }

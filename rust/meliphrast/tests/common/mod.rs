@@ -42,7 +42,7 @@ pub fn fill<S: AsMut<[u8]>>(register: &mut Register<S>, book: u64, offsets: &[(P
     }
 }
 
-pub fn filled(offsets: &[(Place, [i64; 3])]) -> Register<Box<[u8]>> {
+pub fn filled(offsets: &[(Place, [i64; 3])]) -> Register {
     let mut register = Register::fresh();
     fill(&mut register, 1, offsets);
     register

@@ -4,7 +4,7 @@ use mir.Syntax.{w64}
 use mir.ValLaws.{toZ-ofZ}
 use Rattle.image.specs.Lengths.{termWordsOr, termsGiven}
 use Rattle.book.proofs.Meaning.{Sized}
-use Rattle.book.proofs.Steps.{begin-given}
+use Rattle.book.proofs.Opened.{begin-given}
 use borrow.Author.Needs.{needs}
 use Rattle.book.proofs.Book.begin.Statement.{statement}
 use Rattle.book.proofs.Book.begin.Tie as tie

@@ -3,7 +3,8 @@ use lib.ListN.{length}
 use Rattle.image.specs.Lengths.{termsOf}
 use Rattle.form.proofs.Laws.{known}
 use Rattle.book.proofs.Meaning.{Sized}
-use Rattle.book.proofs.Steps.{step-unformed, begin-open, begin-range, begun-with, blank-words}
+use Rattle.book.proofs.Steps.{step-unformed}
+use Rattle.book.proofs.Opened.{begin-open, begin-range, begun-with, blank-words}
 use borrow.Author.Needs.{needs}
 use Rattle.book.proofs.Book.begin_words.Statement.{statement}
 use Rattle.book.proofs.Book.begin_words.Tie as tie

@@ -2,7 +2,8 @@ use mir.Syntax.{w64}
 use mir.ValLaws.{toZ-ofZ}
 use Rattle.paper.specs.Units.{Place}
 use Rattle.book.proofs.Meaning.{Sized}
-use Rattle.book.proofs.Steps.{sought-small, corrected}
+use Rattle.book.proofs.Sought.{sought-small}
+use Rattle.book.proofs.Changed.{corrected}
 use borrow.Author.Needs.{needs}
 use Rattle.book.proofs.Book.correct.Statement.{statement}
 use Rattle.book.proofs.Book.correct.Tie as tie

@@ -2,7 +2,8 @@ use mir.Syntax.{w64}
 use mir.ValLaws.{toZ-ofZ}
 use Rattle.paper.specs.Units.{Place}
 use Rattle.book.proofs.Meaning.{Sized}
-use Rattle.book.proofs.Steps.{sought-small, entered}
+use Rattle.book.proofs.Sought.{sought-small}
+use Rattle.book.proofs.Changed.{entered}
 use borrow.Author.Needs.{needs}
 use Rattle.book.proofs.Book.enter.Statement.{statement}
 use Rattle.book.proofs.Book.enter.Tie as tie

@@ -1,5 +1,5 @@
 use Rattle.image.proofs.Lengths.{repaired}
-use Rattle.book.proofs.Steps.{placed-refused, placed-near, placed-far}
+use Rattle.book.proofs.Changed.{placed-refused, placed-near, placed-far}
 use borrow.Author.Needs.{needs}
 use Rattle.book.proofs.Book.placed.Statement.{statement}
 use Rattle.book.proofs.Book.placed.Tie as tie

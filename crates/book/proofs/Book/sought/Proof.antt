@@ -3,7 +3,7 @@ use mathlib.Core.Bool.{true, false}
 use Rattle.paper.specs.Units.{Place}
 use Rattle.book.specs.declared.Aim.{Aim}
 use Rattle.book.proofs.Meaning.{Sized}
-use Rattle.book.proofs.Steps.{aim-on, place-small, sought-before, sought-there}
+use Rattle.book.proofs.Sought.{aim-on, place-small, sought-before, sought-there}
 use borrow.Author.Needs.{needs}
 use Rattle.book.proofs.Book.sought.Statement.{statement}
 use Rattle.book.proofs.Book.sought.Tie as tie

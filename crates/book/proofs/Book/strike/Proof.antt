@@ -1,6 +1,7 @@
 use Rattle.form.proofs.Laws.{known}
 use Rattle.book.proofs.Meaning.{Sized}
-use Rattle.book.proofs.Steps.{step-unformed, strike-closed, struck}
+use Rattle.book.proofs.Steps.{step-unformed}
+use Rattle.book.proofs.Opened.{strike-closed, struck}
 use borrow.Author.Needs.{needs}
 use Rattle.book.proofs.Book.strike.Statement.{statement}
 use Rattle.book.proofs.Book.strike.Tie as tie

@@ -5,7 +5,8 @@ use Rattle.form.proofs.Laws.{known}
 use Rattle.book.specs.declared.Book.{Book}
 use Rattle.book.specs.Steps.{step}
 use Rattle.book.proofs.Meaning.{Sized}
-use Rattle.book.proofs.Steps.{step-unformed, back-closed, step-nothing, back-small, step-undone}
+use Rattle.book.proofs.Steps.{step-unformed}
+use Rattle.book.proofs.Back.{back-closed, step-nothing, back-small, step-undone}
 use borrow.Author.Needs.{needs}
 use Rattle.book.proofs.Book.take_back.Statement.{statement}
 use Rattle.book.proofs.Book.take_back.Tie as tie

@@ -3,7 +3,8 @@ use Rattle.paper.specs.Units.{Place}
 use Rattle.book.specs.declared.Book.{Book}
 use Rattle.book.specs.Steps.{step}
 use Rattle.book.proofs.Meaning.{Sized}
-use Rattle.book.proofs.Steps.{sought-small, withdraw-refused, withdrawn}
+use Rattle.book.proofs.Sought.{sought-small}
+use Rattle.book.proofs.Changed.{withdraw-refused, withdrawn}
 use borrow.Author.Needs.{needs}
 use Rattle.book.proofs.Book.withdraw.Statement.{statement}
 use Rattle.book.proofs.Book.withdraw.Tie as tie

@@ -39,13 +39,24 @@ pub fn marked() -> Vec<Example> {
     ]
 }
 
+/// Of annex A's series three times over, wherever it passes the screening.
+const ANNEX_A_REPORT: &str = "XY WITHIN 7452 17712\nH WITHIN 6331 31106\nPASS\n";
+
 pub fn measured() -> Vec<Example> {
-    vec![Example::new(
-        "annex_b",
-        "annex B of document 003, all 30 readings",
-        annex_b().file(),
-        "XY WITHIN 6350 17712\nH WITHIN 9900 31106\nPASS\n",
-    )]
+    vec![
+        Example::new(
+            "annex_b",
+            "annex B of document 003, all 30 readings",
+            annex_b().file(),
+            "XY WITHIN 6350 17712\nH WITHIN 9900 31106\nPASS\n",
+        ),
+        Example::new(
+            "annex_a_thrice",
+            "annex A of document 003, its series three times over",
+            annex_a_thrice().file(),
+            ANNEX_A_REPORT,
+        ),
+    ]
 }
 
 pub fn at_the_bounds() -> Vec<Example> {
@@ -91,6 +102,12 @@ pub fn at_the_screening_limits() -> Vec<Example> {
             FieldSheet::still().moved(2, 3, 2, [0, 0, 883]).file(),
             "XY WITHIN 0 2361\nH BEYOND 16508 2488\nFAIL\n",
         ),
+        Example::new(
+            "annex_a_at_limit",
+            "annex A three times over, s_xy 59: d 206 (K3) passes the screening",
+            annex_a_thrice().with_stated(2, 59).file(),
+            ANNEX_A_REPORT,
+        ),
     ]
 }
 
@@ -104,6 +121,15 @@ pub fn annex_a() -> FieldSheet {
         stated: stated(annex::ANNEX_A_NOMINAL),
         points: annex::ANNEX_A_POINTS,
         readings: std::array::from_fn(|place| annex::ANNEX_A.get(place).map(units)),
+    }
+}
+
+/// Annex A's series in the place of all three.
+pub fn annex_a_thrice() -> FieldSheet {
+    let series = annex::ANNEX_A;
+    FieldSheet {
+        readings: std::array::from_fn(|place| Some(units(&series[place % series.len()]))),
+        ..annex_a()
     }
 }
 

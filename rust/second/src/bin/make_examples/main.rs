@@ -46,7 +46,8 @@ fn main() -> io::Result<()> {
         ("Edges: numbers", refused::edges_of_numbers()),
         ("Edges: lines and counts", refused::edges_of_lines()),
     ];
-    let mut readme = String::from(include_str!("readme_head.md"));
+    let files: usize = groups.iter().map(|(_, examples)| examples.len()).sum();
+    let mut readme = include_str!("readme_head.md").replace("FILES", &files.to_string());
     for (title, examples) in &groups {
         readme += &format!("\n## {title}\n\n| File | Shows | Output |\n|---|---|---|\n");
         for example in examples {

@@ -1,6 +1,6 @@
 //! Files that are refused: one for each number, their order, and the edges of the form.
 
-use crate::judged::{annex_a, with_x_and_h};
+use crate::judged::{annex_a, annex_a_thrice, with_x_and_h};
 use crate::sheet::FieldSheet;
 use crate::Example;
 
@@ -77,11 +77,14 @@ pub fn suspects() -> Vec<Example> {
     let both = still().moved(2, 4, 1, [531, 0, -884]).file();
     let two = still().moved(3, 1, 1, [531, 0, 0]);
     let two = two.moved(2, 5, 1, [0, 0, 884]).file();
+    let annex = annex_a_thrice().with_stated(2, 58).file();
+    let annex_shows = "annex A three times over, s_xy 58: d 206 (K3)";
     vec![
         refused("refused_11_distance", "K1: d 531", distance, "11 2 3 1"),
         refused("refused_11_height", "K2: d 884", height, "11 3 5 2"),
         refused("refused_11_both", "distance first", both, "11 2 4 1"),
         refused("refused_11_two_sets", "first set first", two, "11 2 5 2"),
+        refused("annex_a_suspect", annex_shows, annex, "11 1 1 1"),
     ]
 }
 

@@ -1,0 +1,69 @@
+-- The ways out of opening a book and of striking one.
+-- Assumes nothing.
+use Prim.Native.Nat.{ℕ}
+use mathlib.Core.Path.{_≡_, refl, sym, ap, _∙_}
+use mathlib.Core.Bool.{Bool, true, false}
+use mathlib.Core.Option.{none, some}
+use mathlib.Core.List.{List}
+use lib.ListN.{length}
+use lib.Dec.{eqb}
+use borrow.Author.Tests.{eqb-true, eqb-false}
+use Rattle.paper.specs.Units.{Terms, inRange}
+use Rattle.paper.specs.Books as paper
+use Rattle.paper.specs.Calls.{begin, strike, effect, affected}
+use Rattle.paper.specs.TurnedAway.{lowest, rules}
+use Rattle.image.specs.Lengths.{termsOf, termWordsOr}
+use Rattle.image.specs.Places.{cellsOf, spotWords}
+use Rattle.image.specs.Changes.{changesOf}
+use Rattle.image.proofs.Lengths.{words-terms}
+use Rattle.image.proofs.Bounds.{range-given, terms-given}
+use Rattle.book.specs.declared.Book.{Book}
+use Rattle.book.specs.declared.Step.{Step}
+use Rattle.book.specs.Meaning.{bookOf, bookForm}
+use Rattle.book.specs.Steps.{step, stepOf, begunOf}
+use Rattle.book.proofs.Meaning.{Sized, meant-closed, meant-open}
+use Rattle.book.proofs.Steps.{step-unformed, step-refused, step-done}
+
+module _ (b : Book) (s : Sized b) (e : bookForm b ≡ true) where
+  pub strike-closed : b .opened ≡ 0 → step 5 b ≡ stepOf strike b
+  unfolding rules lowest
+  strike-closed z = step-refused b strike 4 s e (rw (meant-closed b z))
+
+  pub struck : (b′ : Book) → (b .opened ≡ 0 → ⊥) → b′ ≡ bookOf none → step 0 b′ ≡ stepOf strike b
+  unfolding rules lowest effect affected
+  struck b′ f w = step-done b strike b′ e (rw (meant-open b f)) w
+
+  module _ (t : Terms) where
+    pub begin-open : (b .opened ≡ 0 → ⊥) → step 3 b ≡ stepOf (begin t) b
+    unfolding rules lowest
+    begin-open f = step-refused b (begin t) 2 s e (rw (meant-open b f))
+
+    pub begin-range : b .opened ≡ 0 → inRange t ≡ false → step 4 b ≡ stepOf (begin t) b
+    unfolding rules lowest
+    begin-range z r = step-refused b (begin t) 3 s e (rw (meant-closed b z, r))
+
+    pub begun-with : (b′ : Book) → b .opened ≡ 0 → inRange t ≡ true → b′ ≡ bookOf (some (paper.blank t)) → step 0 b′ ≡ stepOf (begin t) b
+    unfolding rules lowest effect affected
+    begun-with b′ z r w = step-done b (begin t) b′ e (rw (meant-closed b z, r)) w
+
+-- terms of any size are opened as their words are
+pub begin-given : (b : Book) (t : Terms) → Sized b → (w : List ℕ) → w ≡ termWordsOr t → (r : Step) → r ≡ stepOf (begin (termsOf w)) b → r ≡ stepOf (begin t) b
+begin-given b t s w ew r er = er ∙ ap (λ (l : List ℕ). stepOf (begin (termsOf l)) b) ew ∙ go (bookForm b) (inRange t) (eqb (b .opened) 0) refl refl refl
+  where
+    u : Terms
+    u = termsOf (termWordsOr t)
+
+    go : (i r z : Bool) → bookForm b ≡ i → inRange t ≡ r → eqb (b .opened) 0 ≡ z → stepOf (begin u) b ≡ stepOf (begin t) b
+    go false r z e f g = sym (step-unformed b (begin u) e) ∙ step-unformed b (begin t) e
+    go true true z e f g = ap (λ (v : Terms). stepOf (begin v) b) (terms-given t f)
+    go true false true e f g =
+        let c = eqb-true (b .opened) 0 g in
+        sym (begin-range b s e u c (range-given t ∙ f)) ∙ begin-range b s e t c f
+    go true false false e f g =
+        let o = eqb-false (b .opened) 0 g in
+        sym (begin-open b s e u o) ∙ begin-open b s e t o
+
+-- the words of a blank book
+pub blank-words : (t : List ℕ) → length t ≡ 12 → begunOf t ≡ bookOf (some (paper.blank (termsOf t)))
+unfolding begunOf bookOf paper.blank paper.nothing cellsOf spotWords changesOf
+blank-words t n = rw (words-terms t n)
