@@ -61,6 +61,13 @@ module _ (bs : List ℕ) (t : Terms) (l : Places) where
   pub read-back : OfForm bs t l → readOf bs ≡ some (t, l)
   read-back f = read-got bs (f .fits) (ap whole (f .is-text) ∙ whole-back t l (f .printable))
 
+  -- what is refused is the text of no contents
+  pub read-none : readOf bs ≡ none → OfForm bs t l → ⊥
+  read-none e f =
+      let u : _≡_ {A = Option (Terms × Places)} none (some (t, l)) = sym e ∙ read-back f in
+      let z : _≡_ {A = ℕ} 0 1 = cc in
+      absurd (omega arith)
+
 -- ---- a text is the text of one contents
 
 pub text-one : (t t′ : Terms) (l l′ : Places) → Printable t l → Printable t′ l′ → text t l ≡ text t′ l′ → (t ≡ t′) × (l ≡ l′)
