@@ -5,6 +5,7 @@ use mathlib.Core.Option.{Option, none, some}
 use mathlib.Core.List.{List, [], _∷_}
 use lib.ListN.{getD, replicate}
 use lib.Dec.{eqb}
+use Rattle.paper.specs.Refusals.{REGISTER, PLACE, CLOSED, FAR}
 use Rattle.paper.specs.Units.{Place, inSheet, number, pointOf, isEmpty, near}
 use Rattle.paper.specs.Books as paper
 use Rattle.paper.specs.Calls.{Act}
@@ -31,12 +32,12 @@ stepOf a b = step (refusedAlone a (seen b)) (wordsOr b (next a (seen b)))
 
 -- ---- steps of the code
 
--- 1, 2 or 5; or the number of a place of an open book
+-- REGISTER, PLACE or CLOSED; or the number of a place of an open book
 abbrev pub aim : ℕ → ℕ → Aim
 aim n p = record { refusal = n; place = p }
 
 unfoldable pub aimOf : Book → Place → Aim
-aimOf b p = cond (bookForm b) (cond (inSheet p) (cond (eqb (b .opened) 0) (aim 5 0) (aim 0 (number p))) (aim 2 0)) (aim 1 0)
+aimOf b p = cond (bookForm b) (cond (inSheet p) (cond (eqb (b .opened) 0) (aim CLOSED 0) (aim 0 (number p))) (aim PLACE 0)) (aim REGISTER 0)
 
 -- the same of a call that is refused by e at an empty place and by f at a filled one
 abbrev pub metAt : Book → ℕ → ℕ → Aim → Aim
@@ -67,9 +68,9 @@ undoneOf b =
       changes = popped (b .changes);
     }
 
--- a reading, in words, at a place where it may stand; 8 where it is far
+-- a reading, in words, at a place where it may stand; FAR where it is far
 abbrev pub putOf : Book → ℕ → ℕ → ℕ → ℕ → Step
-putOf b p x y h = cond (near (termsOf (b .terms)) (pointOf p) (triple x y h)) (step 0 (changedOf b p (x ∷ y ∷ h ∷ []))) (step 8 b)
+putOf b p x y h = cond (near (termsOf (b .terms)) (pointOf p) (triple x y h)) (step 0 (changedOf b p (x ∷ y ∷ h ∷ []))) (step FAR b)
 
 -- the same where a call goes, unless it is refused there
 unfoldable pub placedOf : Book → Aim → ℕ → ℕ → ℕ → Step

@@ -3,6 +3,7 @@ use Prim.Native.Nat.{ℕ, _*_, _≤_}
 use mathlib.Core.Bool.{Bool, false, cond, _&&_}
 use mathlib.Core.Option.{Option, none, some}
 use lib.Dec.{leb, eqb}
+use Rattle.paper.specs.Refusals.{SUSPECT, ZERO}
 use Rattle.paper.specs.Screening.{Suspect, firstSuspect}
 use Rattle.paper.specs.Verdicts.{sum, samePopulation}
 use Rattle.paper.specs.Books.{Sight}
@@ -48,12 +49,12 @@ notCompared n i j k = record { refusal = n; series = i; set = j; quantity = k; s
 
 unfoldable pub bySums : ℕ → ℕ → ℕ → Compared
 bySums axis first second =
-    cond (eqb second 0) (notCompared 12 0 0 0) (record { refusal = 0; series = 0; set = 0; quantity = 0; same = samePopulation axis first second })
+    cond (eqb second 0) (notCompared ZERO 0 0 0) (record { refusal = 0; series = 0; set = 0; quantity = 0; same = samePopulation axis first second })
 
 -- the first book first
 unfoldable pub bySuspects : Option Suspect → Option Suspect → Compared → Compared
-bySuspects (some u) v r = notCompared 11 (u .series) (u .set) (u .quantity)
-bySuspects none (some v) r = notCompared 11 (v .series) (v .set) (v .quantity)
+bySuspects (some u) v r = notCompared SUSPECT (u .series) (u .set) (u .quantity)
+bySuspects none (some v) r = notCompared SUSPECT (v .series) (v .set) (v .quantity)
 bySuspects none none r = r
 
 -- two full books

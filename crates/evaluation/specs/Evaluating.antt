@@ -1,6 +1,7 @@
 -- The evaluation of an open book in form: the paper's answer as the code's records.
 use Prim.Native.Nat.{ℕ}
 use mathlib.Core.Option.{Option, none, some}
+use Rattle.paper.specs.Refusals.{SUSPECT}
 use Rattle.paper.specs.Units.{Terms, Places}
 use Rattle.paper.specs.Screening.{Suspect, firstSuspect}
 use Rattle.paper.specs.Verdicts.{evaluation}
@@ -40,7 +41,7 @@ notJudged n i j k = judgementBy n (record { series = i; set = j; quantity = k })
 
 unfoldable pub afterScreen : Option Suspect → Terms → Places → Judgement
 afterScreen none t l = judgementBy 0 nowhere (evaluation t l)
-afterScreen (some s) t l = notJudged 11 (s .series) (s .set) (s .quantity)
+afterScreen (some s) t l = notJudged SUSPECT (s .series) (s .set) (s .quantity)
 
 -- a full book
 abbrev pub screenedOf : Sight → Judgement

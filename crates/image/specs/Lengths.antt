@@ -1,5 +1,5 @@
 -- A length as one word: the length + 10^12; 0 stands for no length. The terms of a book as twelve words.
-use Prim.Native.Nat.{ℕ, _+_}
+use Prim.Native.Nat.{ℕ, _+_, _-_}
 use mathlib.Core.Bool.{cond}
 use mathlib.Core.List.{List, [], _∷_, _++_}
 use lib.ListN.{getD}
@@ -14,7 +14,7 @@ ORIGIN = 1000000000000
 
 -- the greatest length that has a word
 abbrev pub GREATEST : ℕ
-GREATEST = 999999999999
+GREATEST = ORIGIN - 1
 
 -- the length that a word stands for
 unfoldable pub len : ℕ → ℤ

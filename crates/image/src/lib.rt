@@ -1,7 +1,8 @@
 // Numbers of any size to what the words of a book hold, and back.
 ghost use mathlib.Core.Path.{_≡_};
-ghost use Prim.Native.Nat.{_+_, _*_, _-_, _≤_, _<_};
+ghost use Prim.Native.Nat.{_*_, _≤_, _<_};
 ghost use Rattle.paper.specs.Procedure.{SERIES, SETS, POINTS};
+ghost use Rattle.paper.specs.Units.{inOrder};
 ghost use Rattle.image.specs.Lengths.{ORIGIN, len, wordOr, termWordsOr, termsGiven};
 ghost use Rattle.image.specs.Places.{placeOf};
 use procedure::Procedure;
@@ -100,7 +101,7 @@ pub fn length_of(w: u64) -> i64
 // Where a place of the sheet stands in sheet order, from 0.
 fn number(series: u64, set: u64, point: u64) -> usize
     requires { ⌜ ((1 ≤ series) × (series ≤ SERIES)) × ((1 ≤ set) × (set ≤ SETS)) × ((1 ≤ point) × (point ≤ POINTS)) ⌝ }
-    ensures { λ r. ⌜ r ≡ ((series - 1) * SETS + (set - 1)) * POINTS + (point - 1) ⌝ }
+    ensures { λ r. ⌜ r ≡ inOrder series set point ⌝ }
 {
     let round = (series - 1) as usize * Procedure::SETS + (set - 1) as usize;
     round * Procedure::POINTS + (point - 1) as usize

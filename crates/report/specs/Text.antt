@@ -4,6 +4,7 @@ use mathlib.Core.Bool.{cond}
 use mathlib.Core.List.{List, [], _∷_, _++_}
 use lib.Dec.{eqb}
 use lib.IntN.{ℤ, pos}
+use Rattle.paper.specs.Refusals.{SUSPECT}
 use Rattle.paper.specs.Screening.{Suspect}
 use Rattle.paper.specs.Answers.{Value, done, lengths, count, evaluates, same, listed, Answer}
 use Rattle.paper.specs.declared.Judged.{Judged}
@@ -16,7 +17,7 @@ REFUSED = ascii "REFUSED "
 
 -- the number of a refusal, for 11 followed by series, set and quantity
 unfoldable pub refusalNumbers : ℕ → Suspect → List ℤ
-refusalNumbers n s = cond (eqb n 11) (pos n ∷ pos (s .series) ∷ pos (s .set) ∷ pos (s .quantity) ∷ []) (pos n ∷ [])
+refusalNumbers n s = cond (eqb n SUSPECT) (pos n ∷ pos (s .series) ∷ pos (s .set) ∷ pos (s .quantity) ∷ []) (pos n ∷ [])
 
 unfoldable pub refusalText : ℕ → Suspect → List ℕ
 refusalText n s = REFUSED ++ line (refusalNumbers n s)

@@ -5,6 +5,7 @@ use mathlib.Core.Option.{none}
 use mathlib.Core.List.{List}
 use lib.ListN.{length}
 use lib.Dec.{eqb}
+use Rattle.paper.specs.Refusals.{REGISTER, PLACE}
 use Rattle.paper.specs.Procedure.{BOOKS}
 use Rattle.paper.specs.Units.{oneTo}
 use Rattle.words.specs.Words.{bytesOf}
@@ -30,9 +31,9 @@ unformed b = record { opened = 2; terms = b .terms; cells = b .cells; kept = b .
 unfoldable pub foundOf : List ℕ → ℕ → Book
 foundOf bs k = cond (othersForm bs k) (pickedOf bs k) (unformed (pickedOf bs k))
 
--- 1 (REGISTER), then 2 (PLACE), then what the book met
+-- REGISTER, then PLACE, then what the book met
 unfoldable pub turnedAway : ℕ → ℕ → ℕ
-turnedAway k met = cond (eqb met 1) 1 (cond (oneTo BOOKS k) met 2)
+turnedAway k met = cond (eqb met REGISTER) REGISTER (cond (oneTo BOOKS k) met PLACE)
 
 -- the bytes with this book under that number
 abbrev pub placedAt : List ℕ → ℕ → Book → List ℕ
