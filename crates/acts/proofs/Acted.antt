@@ -30,8 +30,8 @@ use Rattle.stored.specs.Image.{BOOK, bookBytes}
 use Rattle.lent.specs.Image.{LENGTH, image, meantFrom}
 use Rattle.lent.specs.Calls.{shut, callOn, called, Calls}
 use Rattle.shelf.specs.Steps.{foundOf, turnedAway, placedAt}
-use Rattle.stored.proofs.Image.{Bytes}
-use Rattle.lent.proofs.Image.{form-length, formed-in, image-set, state-in, state-out, form-image-is, form-state}
+use Rattle.words.proofs.Words.{Bytes}
+use Rattle.lent.proofs.Image.{form-length, image-set, state-in, state-out, form-image-is, form-state}
 use Rattle.shelf.proofs.Ways.{Found, found, elsewhere, Way, within, without, found-way, found-seen, found-meant, away-among}
 
 -- outside the sixteen it is 2 (PLACE), but for 1 (REGISTER)
@@ -80,7 +80,7 @@ module _ (bs : List ℕ) (k : ℕ) (a : Act) (y : Bytes bs) where
         go (suc j) h =
             let e : suc j - 1 ≡ j = omega arith in
             rw e (ap (λ (l : List ℕ). pasted l (j * BOOK) (bookBytes p)) (sym (form-image-is bs y (f .formed)))
-            ∙ image-set r j p (omega (arith, h .1, v .sixteen)) (formed-in r v) g)
+            ∙ image-set r j p (omega (arith, h .1, v .sixteen)) v g)
 
     act-done : (s : Step) (bs′ : List ℕ) → s ≡ stepOf a b → bs′ ≡ unless (s .refusal) (placedAt bs k (s .book)) bs → Calls (on k a) bs (s .refusal) bs′
     unfolding called callOn says after

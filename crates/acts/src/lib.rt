@@ -1,6 +1,6 @@
 // The exported calls that change one book of a lent register. Any bytes and any numbers may be handed in.
 ghost use Rattle.paper.specs.Calls.{on, begin, strike, enter, correct, withdraw, takeBack};
-ghost use Rattle.image.specs.Lengths.{termsGiven};
+ghost use Rattle.paper.specs.Units.{termsGiven};
 ghost use Rattle.lent.specs.Calls.{Calls};
 
 // Open a closed book with terms.

@@ -6,7 +6,9 @@ use mathlib.Core.List.{List, [], _∷_, _++_, append-assoc, append-nil}
 use native.Mathlib.Omega.{arith}
 use native.Mathlib.Numerals.{add-one}
 use lib.ListN.{length, drop, length-append}
+use Rattle.words.specs.Blocks.{laid}
 use Rattle.words.specs.Paste.{pasted}
+use Rattle.words.proofs.Blocks.{laid-append}
 use Rattle.words.proofs.Paste.{pasted-nil, pasted-then}
 use Rattle.paper.specs.Units.{Spot, Places}
 use Rattle.image.specs.Places.{spotWords, cellsOf}
@@ -22,16 +24,11 @@ use Rattle.spots.specs.Given.{Placed}
 
 -- ---- cells of places
 
-cells-append : (xs ys : Places) → cellsOf (xs ++ ys) ≡ cellsOf xs ++ cellsOf ys
-unfolding cellsOf
-cells-append [] ys = refl
-cells-append (v ∷ xs) ys = rw (cells-append xs ys) (simp append-assoc)
-
 -- a series after others
 cells-then : (cells mid last : List ℕ) (xs ys : Places) (base : ℕ) → base ≡ 3 * length xs → base + 3 * length ys ≤ length cells
     → mid ≡ pasted cells 0 (cellsOf xs) → last ≡ pasted mid base (cellsOf ys) → last ≡ pasted cells 0 (cellsOf (xs ++ ys))
 cells-then cells mid last xs ys base e h p q =
-    q ∙ rw (p, cells-append xs ys)
+    q ∙ rw (p, laid-append spotWords xs ys)
     (pasted-then cells 0 (cellsOf xs) base (cellsOf ys) (omega (arith, length-cells xs)) (omega (arith, length-cells ys)))
 
 -- ---- a series, after k of its places
@@ -47,12 +44,12 @@ pub record Going (s : List ℕ) (at count : ℕ) (cells₀ : List ℕ) (base : �
   pub same : length cells ≡ length cells₀
 
 one-cell : (v : Spot) → cellsOf (v ∷ []) ≡ spotWords v
-unfolding cellsOf
+unfolding laid
 one-cell v = append-nil (spotWords v)
 
 module _ (s : List ℕ) (at count : ℕ) (cells₀ : List ℕ) (base : ℕ) where
   pub going-none : at ≤ length s → Going s at count cells₀ base cells₀ at count 0
-  unfolding cellsOf
+  unfolding laid
   going-none h =
       record {
         places = [];
@@ -83,7 +80,7 @@ module _ (s : List ℕ) (at count : ℕ) (cells₀ : List ℕ) (base : ℕ) wher
             reads = ahead-on _ _ (v .places) (w ∷ []) (v .reads) one;
             row = g .holds .1 ∙ (ap (λ (c : List ℕ). pasted c (base + 3 * k) (spotWords w)) (v .row)
                 ∙ (pasted-then cells₀ base (cellsOf (v .places)) (base + 3 * k) (spotWords w) l (omega (arith, length-spot w))
-                ∙ ap (pasted cells₀ base) (sym (cells-append (v .places) (w ∷ []) ∙ ap (λ (c : List ℕ). cellsOf (v .places) ++ c) (one-cell w)))));
+                ∙ ap (pasted cells₀ base) (sym (laid-append spotWords (v .places) (w ∷ []) ∙ ap (λ (c : List ℕ). cellsOf (v .places) ++ c) (one-cell w)))));
             size = length-append (v .places) (w ∷ []) ∙ omega (arith, v .size);
             from = omega (arith, v .from, g .from);
             to = g .to;

@@ -16,14 +16,14 @@ use Rattle.paper.proofs.Form.{parts, AllFit}
 use Rattle.image.specs.Places.{spotAt, placesOf}
 use Rattle.image.specs.Changes.{change, entries, changesOf, zeros}
 use Rattle.image.proofs.Lengths.{words-terms}
-use Rattle.image.proofs.Places.{cells-set, words-spot}
+use Rattle.image.proofs.Places.{length-places, cells-set, words-spot}
 use Rattle.image.proofs.Changes.{length-entries, entries-cons, changes-entries, changes-pop}
 use Rattle.changes.specs.Kept.{popped}
 use Rattle.book.specs.declared.Book.{Book}
 use Rattle.book.specs.Meaning.{bookOf, openOf, meant, bookForm}
 use Rattle.book.specs.Steps.{step, stepOf, undoneOf}
 use Rattle.book.proofs.Meaning.{Sized, book-parts, Sound, form-sound, meant-closed, meant-open}
-use Rattle.book.proofs.Steps.{step-refused, step-done, cell-words, length-places, kept-count}
+use Rattle.book.proofs.Steps.{step-refused, step-done, cell-words, kept-count}
 
 -- of a closed book there is nothing to take back
 pub back-closed : (b : Book) → Sized b → bookForm b ≡ true → b .opened ≡ 0 → step 5 b ≡ stepOf takeBack b
@@ -56,11 +56,10 @@ module _ (b : Book) (s : Sized b) (e : bookForm b ≡ true) (f : b .opened ≡ 0
   unfolding older
   rest-words z =
       let l : length (drop 4 (b .changes)) ≡ 4 * 31 = rw length-drop (omega (arith, s .changes-128)) in
-      let m : 4 * (b .kept - 1) + 4 ≡ b .kept * 4 = omega arith in
       changes-entries 31 (b .kept - 1) (drop 4 (b .changes)) l (omega (arith, sound-b .few))
-      (rw (drop-drop (4 * (b .kept - 1)) 4 (b .changes)) (subst (λ (n : ℕ). zeros (drop n (b .changes)) ≡ true) (swap z) (sound-b .rest)))
+      (rw (drop-drop ((b .kept - 1) * 4) 4 (b .changes)) (subst (λ (n : ℕ). zeros (drop n (b .changes)) ≡ true) (swap z) (sound-b .rest)))
     where
-      swap : 0 < b .kept → b .kept * 4 ≡ 4 + 4 * (b .kept - 1)
+      swap : 0 < b .kept → b .kept * 4 ≡ 4 + (b .kept - 1) * 4
       swap z = omega arith
 
   older-length : length older ≡ b .kept - 1
@@ -73,7 +72,7 @@ module _ (b : Book) (s : Sized b) (e : bookForm b ≡ true) (f : b .opened ≡ 0
       rw (meant-open b f, kept-is z)
       (book-parts _ _ _ _ _ _ _ _ _ _ (sound-b .opened)
       (sym (words-terms (b .terms) (s .terms-12)))
-      (sym (cells-set (placesOf (b .cells)) (getD (b .changes) 0 0) (spotAt (b .changes) 1) (rw (length-places b s sound-b) (back-small z)) ∙ rw (cell-words b s sound-b, words-spot (getD (b .changes) 1 0) (getD (b .changes) 2 0) (getD (b .changes) 3 0))))
+      (sym (cells-set (placesOf (b .cells)) (getD (b .changes) 0 0) (spotAt (b .changes) 1) (rw (length-places (b .cells)) (back-small z)) ∙ rw (cell-words b s sound-b, words-spot (getD (b .changes) 1 0) (getD (b .changes) 2 0) (getD (b .changes) 3 0))))
       (sym older-length)
       (rw (← rest-words z) (changes-pop 31 older (omega (arith, older-length, sound-b .few)))))
 

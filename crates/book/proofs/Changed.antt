@@ -21,7 +21,7 @@ use Rattle.image.specs.Lengths.{triple, termsOf, wordOr}
 use Rattle.image.specs.Places.{spotAt, placesOf, spotWords}
 use Rattle.image.specs.Changes.{change, entries, changeWords}
 use Rattle.image.proofs.Lengths.{words-terms}
-use Rattle.image.proofs.Places.{place-at, cells-set, words-spot}
+use Rattle.image.proofs.Places.{length-places, place-at, cells-set, words-spot}
 use Rattle.image.proofs.Changes.{length-entries, changes-push}
 use Rattle.image.proofs.Bounds.{near-words, near-short, words-of}
 use Rattle.changes.specs.Kept.{pushed, more}
@@ -31,7 +31,7 @@ use Rattle.book.specs.declared.Aim.{Aim}
 use Rattle.book.specs.Meaning.{bookOf, openOf, meant}
 use Rattle.book.specs.Steps.{step, stepOf, soughtOf, changedOf, putOf, placedOf}
 use Rattle.book.proofs.Meaning.{Sized, book-parts, Sound, form-sound, meant-open}
-use Rattle.book.proofs.Steps.{sightO, step-refused, step-done, kept-words, cell-words, length-places, ranged}
+use Rattle.book.proofs.Steps.{sightO, step-refused, step-done, kept-words, cell-words, ranged}
 use Rattle.book.proofs.Sought.{On, placed, place-small, sought-on, sought-refused, sought-rest}
 
 -- ---- a place of an open book
@@ -64,7 +64,7 @@ module _ (b : Book) (s : Sized b) (p : Place) (q : ℕ) (o : On b p q) where
       rw (meant-open b (o .opened), ← o .at, place-at (b .cells) q (place-small b s p q o))
       (book-parts _ _ _ _ _ _ _ _ _ _ (sound .opened)
       (sym (words-terms (b .terms) (s .terms-12)))
-      (sym (cells-set (placesOf (b .cells)) q v (rw (length-places b s sound) (place-small b s p q o)) ∙ ap (λ (l : List ℕ). pasted l (q * 3) (spotWords v)) (cell-words b s sound)))
+      (sym (cells-set (placesOf (b .cells)) q v (rw (length-places (b .cells)) (place-small b s p q o)) ∙ ap (λ (l : List ℕ). pasted l (q * 3) (spotWords v)) (cell-words b s sound)))
       (sym (ap suc (length-take 31 (entries (b .kept) (b .changes)) ∙ ap (min 31) (length-entries (b .kept) (b .changes))) ∙ more-is (b .kept) (sound .few)))
       (sym (changes-push 31 (change q (spotAt (b .cells) (q * 3))) (entries (b .kept) (b .changes)) ∙ rw (words-before, kept-words b s sound))))
 

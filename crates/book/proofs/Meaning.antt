@@ -2,26 +2,26 @@
 -- Assumes nothing.
 use Prim.Native.Nat.{ℕ, _*_, _≤_}
 use native.Mathlib.Omega.{arith}
-use native.Mathlib.Nat.{mul-comm}
 use mathlib.Core.Path.{_≡_, refl, sym, ap, _∙_, subst}
 use mathlib.Core.Bool.{Bool, true, false, cond, _&&_}
 use mathlib.Core.Option.{Option, none, some}
 use mathlib.Core.List.{List}
-use lib.ListN.{length, drop, replicate, length-replicate}
+use lib.ListN.{length, drop, replicate, length-replicate, length-map}
 use lib.Dec.{eqb, leb}
 use borrow.Author.Tests.{eq-eqb, ne-eqb, eqb-true, eqb-false, leb-true, le-leb}
-use Rattle.paper.specs.Procedure.{PLACES, KEPT}
-use Rattle.paper.specs.Units.{Terms, Places}
+use Rattle.paper.specs.Procedure.{KEPT}
+use Rattle.paper.specs.Units.{Terms, termList, Places}
 use Rattle.paper.specs.Books as paper
 use Rattle.paper.specs.Form.{formed, formedO}
 use Rattle.paper.proofs.Tests.{and-left, and-right}
 use Rattle.paper.proofs.Form.{Formed, parts}
-use Rattle.image.specs.Places.{spots, placesOf, cellsOf}
+use Rattle.image.specs.Lengths.{word}
+use Rattle.image.specs.Places.{placesOf, cellsOf}
 use Rattle.image.specs.Changes.{entries, changesOf, zeros}
-use Rattle.image.proofs.Lengths.{length-terms, words-terms}
-use Rattle.image.proofs.Places.{length-cells, cells-spots, spots-cells}
+use Rattle.image.proofs.Lengths.{length-terms, words-terms, terms-words}
+use Rattle.image.proofs.Places.{length-cells, cells-places, places-cells}
 use Rattle.image.proofs.Changes.{length-changes, length-entries, changes-entries, entries-changes, zeros-all, zeros-replicate, zeros-rest}
-use Rattle.image.proofs.Bounds.{terms-back, places-short, kept-short}
+use Rattle.image.proofs.Bounds.{terms-short, places-short, kept-short}
 use Rattle.form.specs.Whole.{blank, sound, wordsForm}
 use Rattle.book.specs.declared.Book.{Book}
 use Rattle.book.specs.Meaning.{bookOf, openOf, meant, bookForm, seen}
@@ -72,10 +72,10 @@ form-sound b e f =
 -- ---- words to book to words
 
 open-book : (b : Book) → Sized b → Sound b → bookOf (some (openOf b)) ≡ b
-unfolding bookOf openOf placesOf
+unfolding bookOf openOf
 open-book b s o =
-    book-parts _ _ _ _ _ _ _ _ _ _ (sym (o .opened)) (words-terms (b .terms) (s .terms-12)) (cells-spots PLACES (b .cells) (s .cells-90)) (length-entries (b .kept) (b .changes))
-    (changes-entries KEPT (b .kept) (b .changes) (s .changes-128) (o .few) (rw (mul-comm 4 (b .kept)) (o .rest)))
+    book-parts _ _ _ _ _ _ _ _ _ _ (sym (o .opened)) (words-terms (b .terms) (s .terms-12)) (cells-places (b .cells) (s .cells-90)) (length-entries (b .kept) (b .changes))
+    (changes-entries KEPT (b .kept) (b .changes) (s .changes-128) (o .few) (o .rest))
 
 closed-book : (b : Book) → Sized b → bookForm b ≡ true → b .opened ≡ 0 → bookOf none ≡ b
 unfolding bookOf bookForm wordsForm blank
@@ -111,10 +111,7 @@ form-formed b e = go (eqb (b .opened) 0) refl
 -- ---- book to words to book
 
 places-back : (a : paper.Book) → Formed a → placesOf (cellsOf (a .places)) ≡ a .places
-unfolding placesOf
-places-back a g =
-    subst (λ (n : ℕ). spots n (cellsOf (a .places)) ≡ a .places) (g .thirty)
-    (spots-cells (a .places) (places-short (a .terms) 0 (a .places) (g .ranged) (g .close)))
+places-back a g = places-cells (a .places) (g .thirty) (places-short (a .terms) 0 (a .places) (g .ranged) (g .close))
 
 kept-back : (a : paper.Book) → Formed a → entries (length (a .kept)) (changesOf KEPT (a .kept)) ≡ a .kept
 kept-back a g = entries-changes KEPT (a .kept) (g .few) (kept-short (a .terms) (a .places) (a .kept) (g .ranged) (g .fit))
@@ -124,7 +121,7 @@ same-book a t l k e f g = rw (e, f, g)
 
 open-back : (a : paper.Book) → Formed a → openOf (bookOf (some a)) ≡ a
 unfolding openOf bookOf
-open-back a g = same-book a _ _ _ (terms-back (a .terms) (g .ranged)) (places-back a g) (kept-back a g)
+open-back a g = same-book a _ _ _ (terms-words (a .terms) (terms-short (a .terms) (g .ranged))) (places-back a g) (kept-back a g)
 
 -- LAW: the words of a book in form mean it
 pub meant-image : (o : Option paper.Book) → formedO o ≡ true → meant (bookOf o) ≡ o
@@ -138,7 +135,7 @@ unfolding bookForm wordsForm bookOf blank sound openOf
 form-image none e = rw (zeros-replicate 12, zeros-replicate 90, zeros-replicate 128)
 form-image (some a) e =
     let g = parts a e in
-    let r : zeros (drop (length (a .kept) * 4) (changesOf KEPT (a .kept))) ≡ true = rw (mul-comm (length (a .kept)) 4) (zeros-rest KEPT (a .kept) (g .few)) in
+    let r : zeros (drop (length (a .kept) * 4) (changesOf KEPT (a .kept))) ≡ true = zeros-rest KEPT (a .kept) (g .few) in
     let f : formed (openOf (bookOf (some a))) ≡ true = rw (open-back a g) e in
     rw (le-leb (length (a .kept)) KEPT (g .few), r, f)
 
@@ -147,7 +144,7 @@ unfolding bookOf
 sized-image none e = record { terms-12 = length-replicate {A = ℕ} 12 0; cells-90 = length-replicate {A = ℕ} 90 0; changes-128 = length-replicate {A = ℕ} 128 0 }
 sized-image (some a) e =
     record {
-      terms-12 = length-terms (a .terms);
+      terms-12 = length-map (termList (a .terms)) word ∙ length-terms (a .terms);
       cells-90 = length-cells (a .places) ∙ ap (λ (n : ℕ). 3 * n) (parts a e .thirty);
       changes-128 = length-changes KEPT (a .kept);
     }

@@ -5,22 +5,23 @@ use mathlib.Core.Path.{_≡_, refl, sym, ap, _∙_}
 use mathlib.Core.Bool.{Bool, true, false}
 use mathlib.Core.Option.{none, some}
 use mathlib.Core.List.{List}
-use lib.ListN.{length}
+use lib.ListN.{length, replicate}
 use lib.Dec.{eqb}
 use borrow.Author.Tests.{eqb-true, eqb-false}
+use Rattle.paper.specs.Procedure.{PLACES, KEPT}
 use Rattle.paper.specs.Units.{Terms, inRange}
 use Rattle.paper.specs.Books as paper
 use Rattle.paper.specs.Calls.{begin, strike, effect, affected}
 use Rattle.paper.specs.TurnedAway.{lowest, rules}
 use Rattle.image.specs.Lengths.{termsOf, termWordsOr}
-use Rattle.image.specs.Places.{cellsOf, spotWords}
-use Rattle.image.specs.Changes.{changesOf}
-use Rattle.image.proofs.Lengths.{words-terms}
-use Rattle.image.proofs.Bounds.{range-given, terms-given}
+use Rattle.image.proofs.Lengths.{words-terms, terms-words-or}
+use Rattle.image.proofs.Places.{none-cells}
+use Rattle.image.proofs.Changes.{none-kept}
+use Rattle.image.proofs.Bounds.{terms-short, range-given}
 use Rattle.book.specs.declared.Book.{Book}
 use Rattle.book.specs.declared.Step.{Step}
 use Rattle.book.specs.Meaning.{bookOf, bookForm}
-use Rattle.book.specs.Steps.{step, stepOf, begunOf}
+use Rattle.book.specs.Steps.{step, stepOf, filledOf}
 use Rattle.book.proofs.Meaning.{Sized, meant-closed, meant-open}
 use Rattle.book.proofs.Steps.{step-unformed, step-refused, step-done}
 
@@ -55,7 +56,7 @@ begin-given b t s w ew r er = er ∙ ap (λ (l : List ℕ). stepOf (begin (terms
 
     go : (i r z : Bool) → bookForm b ≡ i → inRange t ≡ r → eqb (b .opened) 0 ≡ z → stepOf (begin u) b ≡ stepOf (begin t) b
     go false r z e f g = sym (step-unformed b (begin u) e) ∙ step-unformed b (begin t) e
-    go true true z e f g = ap (λ (v : Terms). stepOf (begin v) b) (terms-given t f)
+    go true true z e f g = ap (λ (v : Terms). stepOf (begin v) b) (terms-words-or t (terms-short t f))
     go true false true e f g =
         let c = eqb-true (b .opened) 0 g in
         sym (begin-range b s e u c (range-given t ∙ f)) ∙ begin-range b s e t c f
@@ -64,6 +65,6 @@ begin-given b t s w ew r er = er ∙ ap (λ (l : List ℕ). stepOf (begin (terms
         sym (begin-open b s e u o) ∙ begin-open b s e t o
 
 -- the words of a blank book
-pub blank-words : (t : List ℕ) → length t ≡ 12 → begunOf t ≡ bookOf (some (paper.blank (termsOf t)))
-unfolding begunOf bookOf paper.blank paper.nothing cellsOf spotWords changesOf
-blank-words t n = rw (words-terms t n)
+pub blank-words : (t : List ℕ) → length t ≡ 12 → filledOf t (replicate 90 0) ≡ bookOf (some (paper.blank (termsOf t)))
+unfolding filledOf bookOf paper.blank paper.nothing
+blank-words t n = rw (words-terms t n, none-cells PLACES, none-kept KEPT)

@@ -1,12 +1,11 @@
 -- An act on a book is refused, or done; and the words of an open book in form.
 -- Assumes nothing.
 use Prim.Native.Nat.{ℕ, suc}
-use native.Mathlib.Nat.{mul-comm}
 use mathlib.Core.Path.{_≡_, sym, _∙_}
 use mathlib.Core.Bool.{true, false}
 use mathlib.Core.Option.{Option, Option·map}
 use lib.ListN.{length}
-use Rattle.paper.specs.Procedure.{PLACES, KEPT}
+use Rattle.paper.specs.Procedure.{KEPT}
 use Rattle.paper.specs.Units.{inRange}
 use Rattle.paper.specs.Books as paper
 use Rattle.paper.specs.Calls.{Act, effect, affected}
@@ -17,7 +16,7 @@ use Rattle.paper.proofs.Form.{parts}
 use Rattle.image.specs.Lengths.{termsOf}
 use Rattle.image.specs.Places.{placesOf, cellsOf}
 use Rattle.image.specs.Changes.{entries, changesOf}
-use Rattle.image.proofs.Places.{cells-spots, length-spots}
+use Rattle.image.proofs.Places.{cells-places}
 use Rattle.image.proofs.Changes.{length-entries, changes-entries}
 use Rattle.book.specs.declared.Book.{Book}
 use Rattle.book.specs.Meaning.{bookOf, openOf, meant, bookForm}
@@ -49,15 +48,10 @@ module _ (b : Book) (a : Act) where
 
 module _ (b : Book) (s : Sized b) (o : Sound b) where
   pub kept-words : changesOf KEPT (entries (b .kept) (b .changes)) ≡ b .changes
-  kept-words = changes-entries KEPT (b .kept) (b .changes) (s .changes-128) (o .few) (rw (mul-comm 4 (b .kept)) (o .rest))
+  kept-words = changes-entries KEPT (b .kept) (b .changes) (s .changes-128) (o .few) (o .rest)
 
   pub cell-words : cellsOf (placesOf (b .cells)) ≡ b .cells
-  unfolding placesOf
-  cell-words = cells-spots PLACES (b .cells) (s .cells-90)
-
-  pub length-places : length (placesOf (b .cells)) ≡ PLACES
-  unfolding placesOf
-  length-places = length-spots PLACES (b .cells)
+  cell-words = cells-places (b .cells) (s .cells-90)
 
   pub kept-count : length (openOf b .kept) ≡ b .kept
   unfolding openOf

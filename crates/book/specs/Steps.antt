@@ -76,6 +76,6 @@ putOf b p x y h = cond (near (termsOf (b .terms)) (pointOf p) (triple x y h)) (s
 unfoldable pub placedOf : Book → Aim → ℕ → ℕ → ℕ → Step
 placedOf b a x y h = cond (eqb (a .refusal) 0) (putOf b (a .place) x y h) (step (a .refusal) b)
 
--- an open book with these terms, and nothing else in it
-unfoldable pub begunOf : List ℕ → Book
-begunOf t = record { opened = 1; terms = t; cells = replicate 90 0; kept = 0; changes = replicate 128 0 }
+-- an open book with these terms and readings, and nothing to take back
+unfoldable pub filledOf : List ℕ → List ℕ → Book
+filledOf terms cells = record { opened = 1; terms = terms; cells = cells; kept = 0; changes = replicate 128 0 }

@@ -6,9 +6,10 @@ ghost use Prim.Native.Nat.{_<_};
 ghost use lib.ListN.{getD};
 ghost use Rattle.paper.specs.Procedure.{PLACES};
 ghost use Rattle.paper.specs.Calls.{begin, strike, enter, correct, withdraw, takeBack};
-ghost use Rattle.image.specs.Lengths.{wordOr, termsOf, termsGiven};
+ghost use Rattle.paper.specs.Units.{termsGiven};
+ghost use Rattle.image.specs.Lengths.{wordOr, termsOf};
 ghost use Rattle.book.specs.Meaning.{bookOf, bookForm};
-ghost use Rattle.book.specs.Steps.{stepOf, aimOf, soughtOf, changedOf, undoneOf, placedOf, begunOf};
+ghost use Rattle.book.specs.Steps.{stepOf, aimOf, soughtOf, changedOf, undoneOf, placedOf, filledOf};
 use image::Layout;
 use procedure::Procedure;
 use procedure::Refusal;
@@ -170,11 +171,10 @@ impl Book {
     }
 }
 
-// An open book with these terms, no reading, and nothing to take back.
-pub fn begun(terms: [u64; Layout::TERMS]) -> Book
-    ensures { λ r. ⌜ r ≡ begunOf terms ⌝ }
+// An open book with these terms and readings, and nothing to take back.
+pub fn filled(terms: [u64; Layout::TERMS], cells: [u64; Layout::CELLS]) -> Book
+    ensures { λ r. ⌜ r ≡ filledOf terms cells ⌝ }
 {
-    let cells = [0u64; Layout::CELLS];
     let changes = [0u64; Layout::CHANGES];
     Book {
         opened: 1,
@@ -285,7 +285,7 @@ impl Book {
             if ranges::in_range(&terms) {
                 return Step {
                     refusal: 0,
-                    book: begun(terms),
+                    book: filled(terms, [0u64; Layout::CELLS]),
                 };
             }
             return Step {

@@ -12,14 +12,14 @@ use lib.Dec.{eqb}
 use borrow.Author.Tests.{eqb-true, eqb-false}
 use Rattle.words.specs.Paste.{pasted}
 use Rattle.paper.specs.Units.{Terms, Places}
-use Rattle.image.specs.Lengths.{word, tripleWords, termWords}
+use Rattle.image.specs.Lengths.{word, termWords}
 use Rattle.image.specs.Places.{cellsOf}
 use Rattle.image.proofs.Places.{length-cells}
 use Rattle.decimals.specs.Reader.{Parsed, got, bad, numbers}
 use Rattle.decimals.specs.Given.{Got, Laid}
 use Rattle.decimals.proofs.Steps.{then-got, then-bad}
 use Rattle.decimals.proofs.Exact.{numbers-only}
-use Rattle.fieldfile.specs.Form.{LONGEST, termList}
+use Rattle.fieldfile.specs.Form.{LONGEST}
 use Rattle.fieldfile.specs.Reader.{bodies, table, termsFrom, ends, whole, readOf}
 use Rattle.fieldfile.proofs.Lists.{terms-from}
 use Rattle.fieldfile.proofs.Exact.{whole-only}
@@ -28,10 +28,6 @@ use Rattle.contents.specs.Given.{Formed, contentsOf}
 use Rattle.contents.specs.declared.Contents.{Contents}
 
 -- ---- the words
-
-term-words : (t : Terms) → termWords t ≡ map word (termList t)
-unfolding termWords tripleWords termList
-term-words t = refl
 
 pasted-all : (r xs : List ℕ) → length xs ≡ length r → pasted r 0 xs ≡ xs
 unfolding pasted
@@ -79,7 +75,7 @@ module _ (s : List ℕ) {a b c i : ℕ} (e : table s ≡ got (a, b, c) (drop i s
       let w : whole s ≡ got (termsFrom (g .value), h .value) [] = so-far ∙ rw d in
       let v = whole-only s (termsFrom (g .value)) (h .value) [] w .1 in
       let n = numbers-only 12 (drop i s) (g .reads) .1 in
-      let l : map word (g .value) ≡ termWords (termsFrom (g .value)) = sym (term-words (termsFrom (g .value)) ∙ ap (map word) (terms-from (g .value) n)) in
+      let l : map word (g .value) ≡ termWords (termsFrom (g .value)) = sym (ap (map word) (terms-from (g .value) n)) in
       yes-formed (termsFrom (g .value)) (h .value) w
       (g .holds ∙ (pasted-all ts₀ (map word (g .value)) (length-map (g .value) word ∙ (n ∙ sym p)) ∙ l))
       (h .holds ∙ pasted-all cells₀ (cellsOf (h .value)) (omega (arith, length-cells (h .value), v .thirty)))

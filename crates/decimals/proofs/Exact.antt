@@ -9,6 +9,7 @@ use borrow.Author.Tests.{lt-ltb, le-ltb, eq-eqb, ne-eqb, ltb-true, ltb-false, le
 use lib.Dec.{ltb, leb, eqb}
 use lib.ListN.{length}
 use lib.IntN.{ℤ, pos, negsuc, negℤ}
+use Rattle.words.specs.Lists.{All}
 use Rattle.decimals.specs.Numbers.{digitsIn, digits, numeral, Short, AllShort, sepOf, line}
 use Rattle.decimals.specs.Reader.{Parsed, got, bad, then, fixed, stops, run, nonzero, below, above, number, field, ahead, numbers}
 use Rattle.decimals.proofs.Steps.{then-got, run-on, run-low}
@@ -171,7 +172,7 @@ ahead-only xs bad e = no e
 ahead-only xs (got ys t) e = (ys, cc, cc)
 
 pub numbers-only : (n : ℕ) (l : List ℕ) {zs : List ℤ} {r : List ℕ} → numbers n l ≡ got zs r → (l ≡ line zs ++ r) × (length zs ≡ n) × AllShort zs
-unfolding numbers line AllShort
+unfolding numbers line All
 numbers-only zero l {zs} {r} e = let f : [] ≡ zs = cc in let g : l ≡ r = cc in (rw (← f, g), rw (← f), rw (← f) tt)
 numbers-only (suc n) l {zs} {r} e =
     let i = then-only (field (sepOf n) l) _ e in
@@ -250,7 +251,7 @@ sep-low zero = omega arith
 sep-low (suc n) = omega arith
 
 pub numbers-back : (zs : List ℤ) (r : List ℕ) → AllShort zs → numbers (length zs) (line zs ++ r) ≡ got zs r
-unfolding numbers line AllShort ahead
+unfolding numbers line All ahead
 numbers-back [] r h = refl
 numbers-back (z ∷ zs) r h =
     rw append-assoc (then-got _ (field-back (sepOf (length zs)) z (line zs ++ r) (sep-low (length zs)) (h .0)) ∙ then-got _ (numbers-back zs r (h .1)))

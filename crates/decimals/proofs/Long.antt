@@ -10,6 +10,7 @@ use lib.Dec.{ltb}
 use borrow.Author.Tests.{ltb-true, ltb-false}
 use lib.ListN.{length, length-append}
 use lib.IntN.{ℤ, pos, negsuc}
+use Rattle.words.specs.Lists.{All}
 use Rattle.decimals.specs.Numbers.{digits, numeral, Short, AllShort, sepOf, line}
 use Rattle.decimals.proofs.Exact.{digits-one, digits-more}
 
@@ -31,7 +32,7 @@ long-most (suc n) m h =
 
 -- a number of a line, with its sign and what follows it, takes at most 14 bytes
 pub long-line : (zs : List ℤ) → AllShort zs → length (line zs) ≤ 14 * length zs
-unfolding AllShort line numeral
+unfolding All line numeral
 long-line [] h = omega arith
 long-line (z ∷ zs) h = omega (arith, length-append (numeral z) (sepOf (length zs) ∷ line zs), number z (h .0), long-line zs (h .1))
   where

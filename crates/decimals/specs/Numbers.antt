@@ -5,6 +5,7 @@ use mathlib.Core.List.{List, [], _∷_, _++_}
 use lib.ListN.{length}
 use lib.Dec.{ltb}
 use lib.IntN.{ℤ, pos, negsuc, natAbs}
+use Rattle.words.specs.Lists.{All}
 
 -- the decimal digits of n, at most k of them; '0' is 48
 unfoldable pub digitsIn : ℕ → ℕ → List ℕ
@@ -24,9 +25,8 @@ numeral (negsuc n) = 45 ∷ digits (suc n)
 abbrev pub Short : ℤ → Type 0
 Short z = natAbs z < 1_000_000_000_000
 
-unfoldable pub AllShort : List ℤ → Type 0
-AllShort [] = Unit
-AllShort (z ∷ zs) = Short z × AllShort zs
+abbrev pub AllShort : List ℤ → Type 0
+AllShort zs = All Short zs
 
 -- what follows a number of a line where n more are to come: LF after the last, one space between
 unfoldable pub sepOf : ℕ → ℕ

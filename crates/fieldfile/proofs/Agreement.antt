@@ -8,18 +8,20 @@ use mathlib.Core.List.{List, [], _∷_, _++_}
 use native.Mathlib.Omega.{arith}
 use borrow.Author.Tests.{le-leb, lt-leb, leb-true}
 use lib.Dec.{leb}
-use lib.ListN.{length, length-append}
-use lib.IntN.{ℤ, pos}
-use Rattle.paper.specs.Units.{Terms, Spot, Places}
-use Rattle.image.specs.Lengths.{len, word, tripleAt, tripleWords, termsOf, termWords}
-use Rattle.image.specs.Places.{spots, placesOf, cellsOf}
-use Rattle.image.proofs.Lengths.{len-word}
-use Rattle.image.proofs.Places.{Short as Small, AllShort as AllSmall, spots-cells}
+use lib.ListN.{length, getD, length-append}
+use lib.IntN.{pos}
+use Rattle.words.specs.Lists.{All}
+use Rattle.words.proofs.Elements.{all-each}
+use Rattle.paper.specs.Units.{Terms, termList, Spot, Places}
+use Rattle.image.specs.Lengths.{termsOf, termWords}
+use Rattle.image.specs.Places.{placesOf, cellsOf}
+use Rattle.image.proofs.Lengths.{terms-words}
+use Rattle.image.proofs.Places.{Short as Small, places-cells}
 use Rattle.decimals.specs.Ascii.{ascii}
-use Rattle.decimals.specs.Numbers.{numeral, Short, AllShort, line}
+use Rattle.decimals.specs.Numbers.{numeral, Short, line}
 use Rattle.decimals.specs.Reader.{Parsed, got, bad}
 use Rattle.decimals.proofs.Long.{long-most, long-line}
-use Rattle.fieldfile.specs.Form.{LONGEST, termList, ofSeries, entry, body, lines, text, ShortSpot, ShortSpots, Printable, OfForm}
+use Rattle.fieldfile.specs.Form.{LONGEST, ofSeries, entry, body, lines, text, ShortSpot, ShortSpots, Printable, OfForm}
 use Rattle.fieldfile.specs.Reader.{tag, whole, taken, readOf}
 use Rattle.fieldfile.proofs.Lists.{length-series, all-series, lines-most, short-split3}
 use Rattle.fieldfile.proofs.Exact.{whole-back, whole-only, entry-tag, nested, text-nested}
@@ -79,7 +81,7 @@ text-one t t′ l l′ v w e =
 -- ---- how long it is
 
 long-body : (k : ℕ) (l : Places) → k + length l ≤ 10 → ShortSpots l → length (body k l) ≤ 46 * length l
-unfolding body entry ShortSpots
+unfolding body entry All
 long-body k [] h s = omega arith
 long-body k (none ∷ l) h s = omega (arith, long-body (suc k) l (omega arith) (s .1))
 long-body k (some v ∷ l) h s =
@@ -120,35 +122,12 @@ text-fits t l v =
 
 module _ (t : Terms) (l : Places) (v : Printable t l) where
   pub terms-back : termsOf (termWords t) ≡ t
-  unfolding termsOf termWords tripleAt tripleWords termList AllShort
-  terms-back =
-      let s = v .terms in
-      rw (
-        back (t .distance) (s .0),
-        back (t .height) (s .1 .0),
-        back (t .screenXY) (s .1 .1 .0),
-        back (t .screenH) (s .1 .1 .1 .0),
-        back (t .sigmaXY) (s .1 .1 .1 .1 .0),
-        back (t .sigmaH) (s .1 .1 .1 .1 .1 .0),
-        back (t .point1 .x) (s .1 .1 .1 .1 .1 .1 .0),
-        back (t .point1 .y) (s .1 .1 .1 .1 .1 .1 .1 .0),
-        back (t .point1 .h) (s .1 .1 .1 .1 .1 .1 .1 .1 .0),
-        back (t .point2 .x) (s .1 .1 .1 .1 .1 .1 .1 .1 .1 .0),
-        back (t .point2 .y) (s .1 .1 .1 .1 .1 .1 .1 .1 .1 .1 .0),
-        back (t .point2 .h) (s .1 .1 .1 .1 .1 .1 .1 .1 .1 .1 .1 .0),
-      )
-    where
-      back : (z : ℤ) → Short z → len (word z) ≡ z
-      back z h = len-word z (omega arith)
+  terms-back = terms-words t (all-each Short (pos 0) (omega arith) (termList t) (v .terms))
 
   pub places-back : placesOf (cellsOf l) ≡ l
-  unfolding placesOf ShortSpots AllShort AllSmall Small
-  places-back = ap (λ (n : ℕ). spots n (cellsOf l)) (sym (v .thirty)) ∙ spots-cells l (all l (v .places))
+  unfolding All Small
+  places-back = places-cells l (v .thirty) (λ p. one (getD l p none) (all-each ShortSpot none tt l (v .places) p))
     where
       one : (w : Spot) → ShortSpot w → Small w
       one none h = tt
       one (some r) h = (h .0, h .1 .0, h .1 .1 .0)
-
-      all : (l : Places) → ShortSpots l → AllSmall l
-      all [] h = tt
-      all (w ∷ l) h = (one w (h .0), all l (h .1))

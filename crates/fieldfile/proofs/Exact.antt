@@ -11,14 +11,16 @@ use borrow.Author.Tests.{le-leb, ne-eqb, eqb-true}
 use lib.Dec.{leb, eqb}
 use lib.ListN.{length, length-append}
 use lib.IntN.{ℤ, pos, negsuc}
-use Rattle.paper.specs.Units.{Triple, Terms, Spot, Places}
+use Rattle.words.specs.Lists.{All}
+use Rattle.paper.specs.Units.{Triple, Terms, termList, Spot, Places}
+use Rattle.paper.proofs.Tests.{terms-order}
 use Rattle.decimals.specs.Numbers.{numeral, AllShort, sepOf, line}
 use Rattle.decimals.specs.Reader.{Parsed, got, bad, fixed, field, ahead, numbers}
 use Rattle.decimals.proofs.Steps.{then-got}
 use Rattle.decimals.proofs.Exact.{no, then-only, ahead-only, fixed-only, fixed-back, field-only, field-back, numbers-only, numbers-back, digits-one}
-use Rattle.fieldfile.specs.Form.{CONTENTS, TERMS, SERIES1, SERIES2, SERIES3, termList, ofSeries, entry, body, filled, lines, text, ShortSpot, ShortSpots, Printable}
+use Rattle.fieldfile.specs.Form.{CONTENTS, TERMS, SERIES1, SERIES2, SERIES3, ofSeries, entry, body, filled, lines, text, ShortSpot, ShortSpots, Printable}
 use Rattle.fieldfile.specs.Reader.{tag, tripleFrom, placed, spot, spots, series, bodies, upTo10, count, table, termsFrom, ends, whole}
-use Rattle.fieldfile.proofs.Lists.{triple-from, terms-from, from-terms, length-series, all-series, first-series, second-series, third-series, short-split3, short-join3, lines-most}
+use Rattle.fieldfile.proofs.Lists.{triple-from, terms-from, length-series, all-series, first-series, second-series, third-series, short-split3, short-join3, lines-most}
 
 -- ---- a place
 
@@ -57,7 +59,7 @@ spot-present k m v l h =
     rw (f, fixed-back (tag k) (line (v .x ∷ v .y ∷ v .h ∷ []) ++ l)) (then-got _ (numbers-back (v .x ∷ v .y ∷ v .h ∷ []) l h))
 
 spots-back : (k : ℕ) (zs : Places) (r : List ℕ) → k + length zs ≤ 10 → ShortSpots zs → spots (length zs) k (lines zs) (body k zs ++ r) ≡ got zs r
-unfolding spots lines body entry ShortSpots ahead
+unfolding spots lines body entry All ahead
 spots-back k [] r h s = refl
 spots-back k (none ∷ zs) r h s =
     let i = spots-back (suc k) zs r (omega arith) (s .1) in
@@ -103,7 +105,7 @@ spot-only k left l v m r h = start left
 
 pub spots-only : (n k m : ℕ) (l : List ℕ) {zs : Places} {r : List ℕ} → k + n ≤ 10 → spots n k m l ≡ got zs r
     → (l ≡ body k zs ++ r) × (length zs ≡ n) × ShortSpots zs × (m ≡ lines zs)
-unfolding spots lines body ShortSpots
+unfolding spots lines body All
 spots-only zero k zero l {zs} {r} h e = let f : [] ≡ zs = cc in let g : l ≡ r = cc in rw (← f) (g, refl, tt, refl)
 spots-only zero k (suc m) l h e = no e
 spots-only (suc n) k m l {zs} {r} h e =
@@ -244,7 +246,7 @@ whole-back t l v = rw (text-nested t l) (go (ofSeries 1 l) (ofSeries 2 l) (ofSer
         then-got _ (table-back (lines xs) (lines ys) (lines zs) _ (omega (arith, lines-most xs)) (omega (arith, lines-most ys)) (omega (arith, lines-most zs)))
         ∙ (then-got _ (numbers-back (termList t) _ (v .terms))
         ∙ (then-got _ (bodies-back xs ys zs [] p q s (h .0) (h .1) (h .2))
-        ∙ rw (from-terms t, e)))
+        ∙ rw (terms-order t, e)))
 
 pub whole-only : (bs : List ℕ) (t : Terms) (l : Places) (r : List ℕ) → whole bs ≡ got (t, l) r → (bs ≡ text t l) × Printable t l
 unfolding whole ends

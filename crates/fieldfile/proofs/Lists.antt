@@ -5,37 +5,24 @@ use mathlib.Core.Path.{_≡_, refl, sym, _∙_, ap}
 use mathlib.Core.Option.{none, some}
 use mathlib.Core.List.{List, [], _∷_, _++_}
 use native.Mathlib.Omega.{arith}
-use lib.ListN.{length, take, drop, getD, take-append-drop, length-drop, drop-of-length-le}
-use lib.Seq.{drop-cons, take-all, length-take-le, take-at, drop-at, drop-drop}
+use lib.ListN.{length, take, drop, take-append-drop, length-drop}
+use lib.Seq.{take-all, length-take-le, take-at, drop-at, drop-drop}
+use Rattle.words.proofs.Elements.{elements, elements-all, all-split, all-join}
 use lib.IntN.{ℤ, pos}
 use Rattle.paper.specs.Procedure.{PLACES}
-use Rattle.paper.specs.Units.{Terms, Places, inOrder}
-use Rattle.fieldfile.specs.Form.{termList, ofSeries, lines, ShortSpots}
+use Rattle.paper.specs.Units.{termList, Places, inOrder}
+use Rattle.fieldfile.specs.Form.{ofSeries, lines, ShortSpot, ShortSpots}
 use Rattle.fieldfile.specs.Reader.{tripleFrom, termsFrom}
 
--- ---- a list by its elements
-
--- n elements from i on
-elements : {A : Type 0} → (i n : ℕ) → List A → A → List A
-elements i zero l d = []
-elements i (suc n) l d = getD l i d ∷ elements (suc i) n l d
-
-elements-drop : {A : Type 0} (i n : ℕ) (l : List A) (d : A) → i + n ≡ length l → elements i n l d ≡ drop i l
-unfolding elements
-elements-drop i zero l d e = let h : length l ≤ i = omega arith in sym (drop-of-length-le l h)
-elements-drop i (suc n) l d e = rw (drop-cons l i d (omega arith), elements-drop (suc i) n l d (omega arith))
+-- ---- terms and readings from their numbers
 
 pub terms-from : (zs : List ℤ) → length zs ≡ 12 → termList (termsFrom zs) ≡ zs
-unfolding elements termList termsFrom
-terms-from zs e = elements-drop 0 12 zs (pos 0) (omega arith)
+unfolding elements termList
+terms-from zs e = elements-all 12 zs (pos 0) e
 
 pub triple-from : (zs : List ℤ) → length zs ≡ 3 → tripleFrom zs .x ∷ tripleFrom zs .y ∷ tripleFrom zs .h ∷ [] ≡ zs
 unfolding elements
-triple-from zs e = elements-drop 0 3 zs (pos 0) (omega arith)
-
-pub from-terms : (t : Terms) → termsFrom (termList t) ≡ t
-unfolding termsFrom termList
-from-terms t = refl
+triple-from zs e = elements-all 3 zs (pos 0) e
 
 -- ---- the places of the three series
 
@@ -67,24 +54,14 @@ module _ (xs ys zs : Places) (p : length xs ≡ 10) (q : length ys ≡ 10) (s : 
       let d : drop 20 (xs ++ (ys ++ zs)) ≡ zs = sym (drop-drop 10 10 (xs ++ (ys ++ zs))) ∙ (ap (drop 10) (drop-at xs (ys ++ zs) 10 p) ∙ drop-at ys zs 10 q) in
       ap (take 10) d ∙ take-all 10 zs (omega arith)
 
-short-split : (xs ys : Places) → ShortSpots (xs ++ ys) → ShortSpots xs × ShortSpots ys
-unfolding ShortSpots
-short-split [] ys h = (tt, h)
-short-split (v ∷ xs) ys h = let i = short-split xs ys (h .1) in ((h .0, i .0), i .1)
-
-short-join : (xs ys : Places) → ShortSpots xs → ShortSpots ys → ShortSpots (xs ++ ys)
-unfolding ShortSpots
-short-join [] ys h k = k
-short-join (v ∷ xs) ys h k = (h .0, short-join xs ys (h .1) k)
-
 pub short-split3 : (xs ys zs : Places) → ShortSpots (xs ++ (ys ++ zs)) → ShortSpots xs × ShortSpots ys × ShortSpots zs
 short-split3 xs ys zs h =
-    let i = short-split xs (ys ++ zs) h in
-    let j = short-split ys zs (i .1) in
+    let i = all-split ShortSpot xs (ys ++ zs) h in
+    let j = all-split ShortSpot ys zs (i .1) in
     (i .0, j .0, j .1)
 
 pub short-join3 : (xs ys zs : Places) → ShortSpots xs → ShortSpots ys → ShortSpots zs → ShortSpots (xs ++ (ys ++ zs))
-short-join3 xs ys zs h k m = short-join xs (ys ++ zs) h (short-join ys zs k m)
+short-join3 xs ys zs h k m = all-join ShortSpot xs (ys ++ zs) h (all-join ShortSpot ys zs k m)
 
 pub lines-most : (l : Places) → lines l ≤ length l
 unfolding lines

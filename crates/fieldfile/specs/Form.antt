@@ -4,9 +4,10 @@ use mathlib.Core.Path.{_≡_}
 use mathlib.Core.Option.{none, some}
 use mathlib.Core.List.{List, [], _∷_, _++_}
 use lib.ListN.{length, take, drop}
-use lib.IntN.{ℤ, pos}
+use lib.IntN.{pos}
+use Rattle.words.specs.Lists.{All}
 use Rattle.paper.specs.Procedure.{SETS, POINTS, PLACES}
-use Rattle.paper.specs.Units.{Terms, Spot, Places, inOrder, pointOf}
+use Rattle.paper.specs.Units.{coordinates, Terms, termList, Spot, Places, inOrder, pointOf}
 use Rattle.decimals.specs.Ascii.{ascii}
 use Rattle.decimals.specs.Numbers.{AllShort, line}
 
@@ -33,23 +34,6 @@ SERIES3 = ascii "SERIES3 "
 
 -- ---- the bodies
 
--- the TERMS line is D* h* s_xy s_h sigma_xy sigma_h X1 Y1 H1 X2 Y2 H2
-unfoldable pub termList : Terms → List ℤ
-termList t =
-    t .distance
-    ∷ t .height
-    ∷ t .screenXY
-    ∷ t .screenH
-    ∷ t .sigmaXY
-    ∷ t .sigmaH
-    ∷ t .point1 .x
-    ∷ t .point1 .y
-    ∷ t .point1 .h
-    ∷ t .point2 .x
-    ∷ t .point2 .y
-    ∷ t .point2 .h
-    ∷ []
-
 -- the places of series i
 unfoldable pub ofSeries : ℕ → Places → Places
 ofSeries i l = take (SETS * POINTS) (drop (inOrder i 1 1) l)
@@ -57,7 +41,7 @@ ofSeries i l = take (SETS * POINTS) (drop (inOrder i 1 1) l)
 -- a series line is set, point, x, y, h: that of place k of the series, counted from 0. A missing reading is an absent line
 unfoldable pub entry : ℕ → Spot → List ℕ
 entry k none = []
-entry k (some v) = line (pos (k / POINTS + 1) ∷ pos (pointOf k) ∷ v .x ∷ v .y ∷ v .h ∷ [])
+entry k (some v) = line (pos (k / POINTS + 1) ∷ pos (pointOf k) ∷ coordinates v)
 
 -- lines rise strictly by set, then point: from place k on
 unfoldable pub body : ℕ → Places → List ℕ
@@ -94,11 +78,10 @@ text t l =
 
 abbrev pub ShortSpot : Spot → Type 0
 ShortSpot none = Unit
-ShortSpot (some v) = AllShort (v .x ∷ v .y ∷ v .h ∷ [])
+ShortSpot (some v) = AllShort (coordinates v)
 
-unfoldable pub ShortSpots : Places → Type 0
-ShortSpots [] = Unit
-ShortSpots (v ∷ l) = ShortSpot v × ShortSpots l
+abbrev pub ShortSpots : Places → Type 0
+ShortSpots l = All ShortSpot l
 
 -- what has a text: thirty places, and no number of more than 12 digits
 pub record Printable (t : Terms) (l : Places) : Type 0 where

@@ -7,7 +7,7 @@ use lib.ListN.{length, getD}
 use lib.Dec.{leb}
 use lib.IntN.{ℤ, pos, negsuc}
 use Rattle.paper.specs.Procedure.{SETS, POINTS}
-use Rattle.paper.specs.Units.{Triple, Terms, Spot, Places}
+use Rattle.paper.specs.Units.{Triple, Terms, termsBy, Spot, Places}
 use Rattle.decimals.specs.Reader.{Parsed, got, bad, then, fixed, field, ahead, numbers}
 use Rattle.fieldfile.specs.Form.{LONGEST, CONTENTS, TERMS, SERIES1, SERIES2, SERIES3}
 
@@ -59,18 +59,9 @@ table l =
 
 -- ---- the file
 
-unfoldable pub termsFrom : List ℤ → Terms
-termsFrom zs =
-    record {
-      distance = getD zs 0 (pos 0);
-      height = getD zs 1 (pos 0);
-      screenXY = getD zs 2 (pos 0);
-      screenH = getD zs 3 (pos 0);
-      sigmaXY = getD zs 4 (pos 0);
-      sigmaH = getD zs 5 (pos 0);
-      point1 = record { x = getD zs 6 (pos 0); y = getD zs 7 (pos 0); h = getD zs 8 (pos 0) };
-      point2 = record { x = getD zs 9 (pos 0); y = getD zs 10 (pos 0); h = getD zs 11 (pos 0) };
-    }
+-- twelve numbers in their order
+abbrev pub termsFrom : List ℤ → Terms
+termsFrom zs = termsBy (λ i. getD zs i (pos 0))
 
 -- nothing follows the last line
 unfoldable pub ends : {A : Type 0} → A → List ℕ → Parsed A

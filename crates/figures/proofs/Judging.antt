@@ -6,6 +6,7 @@ use native.Mathlib.Nat.{mul-le-mul}
 use mathlib.Core.Path.{_≡_}
 use mathlib.Core.Bool.{Bool, _&&_}
 use lib.Dec.{leb}
+use Rattle.paper.specs.Procedure.{SPREAD}
 use Rattle.whole.specs.Greatest.{greatestOf}
 use Rattle.paper.specs.Units.{Terms, Places}
 use Rattle.paper.specs.Figures.{shown, figures}
@@ -34,8 +35,8 @@ module _ (s : Totals) (f : Shown) (e : f ≡ shownBy s) where
   shown-h = rw e
 
 -- the square of a stated sigma
-pub sigma² : {w : ℕ} → w ≤ ORIGIN + 10000 → (w - ORIGIN) * (w - ORIGIN) ≤ 100000000
-sigma² {w} h = let k : w - ORIGIN ≤ 10000 = omega arith in mul-le-mul k k
+pub sigma² : {w : ℕ} → w ≤ ORIGIN + SPREAD → (w - ORIGIN) * (w - ORIGIN) ≤ 100000000
+sigma² {w} h = let k : w - ORIGIN ≤ SPREAD = omega arith in mul-le-mul k k
 
 pub within-by-is : (times most sum w : ℕ) → ORIGIN ≤ w → leb (times * sum) (most * ((w - ORIGIN) * (w - ORIGIN))) ≡ withinBy times most sum (len w)
 within-by-is times most sum w low = rw (len-pos w low)

@@ -5,7 +5,7 @@ ghost use Rattle.paper.specs.Figures.{shown};
 ghost use Rattle.paper.specs.Verdicts.{evaluation, bothWithin};
 ghost use Rattle.image.specs.Lengths.{ORIGIN, len, termsOf};
 ghost use Rattle.image.specs.Places.{placesOf};
-ghost use Rattle.image.specs.Ready.{Ready, Between};
+ghost use Rattle.image.specs.Ready.{Ready, IsSpread};
 ghost use Rattle.sums.specs.Sums.{Modest, AllModest};
 ghost use Rattle.figures.specs.Judging.{shownBy, withinBy, judgedBy, Held, SheetHeld, VerdictHeld, AllHeld};
 use image::Layout;
@@ -65,7 +65,7 @@ fn shown_of(s: Totals) -> Shown
 
 // Whether times · sum <= most · sigma². Sigma is a word.
 fn within_by(times: u64, most: u64, sum: u64, sigma: u64) -> bool
-    requires { ⌜ (times ≤ 40) × (most ≤ 22341) × Modest sum × Between (ORIGIN + 1) (ORIGIN + 10000) sigma ⌝ }
+    requires { ⌜ (times ≤ 40) × (most ≤ 22341) × Modest sum × IsSpread sigma ⌝ }
     ensures { λ r. ⌜ r ≡ withinBy times most sum (len sigma) ⌝ }
 {
     let s = sigma - ORIGIN;
@@ -76,7 +76,7 @@ fn within_by(times: u64, most: u64, sum: u64, sigma: u64) -> bool
 
 // The verdict on a sum of which m is shown: within by that test; b is the greatest with b² · divisor <= sigma² · chi · 1,048,576.
 fn judged_by(times: u64, most: u64, divisor: u64, chi: u64, sum: u64, m: u64, sigma: u64) -> Judged
-    requires { ⌜ (times ≤ 40) × (most ≤ 22341) × (0 < divisor) × (chi ≤ 7447) × Modest sum × (m ≡ shown sum) × Held m × Between (ORIGIN + 1) (ORIGIN + 10000) sigma ⌝ }
+    requires { ⌜ (times ≤ 40) × (most ≤ 22341) × (0 < divisor) × (chi ≤ 7447) × Modest sum × (m ≡ shown sum) × Held m × IsSpread sigma ⌝ }
     ensures { λ r. ⌜ (r ≡ judgedBy times most divisor chi sum (len sigma)) × VerdictHeld r ⌝ }
 {
     let within = within_by(times, most, sum, sigma);

@@ -8,21 +8,22 @@ use mathlib.Core.Option.{Option, none, some}
 use mathlib.Core.List.{List}
 use lib.ListN.{length}
 use borrow.Author.Tests.{eq-eqb}
-use Rattle.paper.specs.Procedure.{PLACES}
+use Rattle.paper.specs.Procedure.{PLACES, KEPT}
 use Rattle.paper.specs.Units.{Terms, Places, inRange, allNear}
 use Rattle.paper.specs.TurnedAway.{lowest}
 use Rattle.paper.specs.Form.{formed, formedO, takeable}
 use Rattle.paper.specs.Alone as alone
 use Rattle.image.specs.Lengths.{termsOf, termWords}
 use Rattle.image.specs.Places.{placesOf, cellsOf}
-use Rattle.image.specs.Changes.{changesOf}
+use Rattle.image.proofs.Changes.{none-kept}
 use Rattle.fieldfile.specs.Form.{Printable}
 use Rattle.fieldfile.specs.Reader.{readOf}
 use Rattle.contents.specs.Given.{contentsOf}
 use Rattle.contents.specs.declared.Contents.{Contents}
 use Rattle.fieldfile.proofs.Agreement.{read-only, terms-back, places-back}
 use Rattle.book.specs.Meaning.{bookOf}
-use Rattle.filebook.specs.FileBook.{bookRead, filledOf}
+use Rattle.book.specs.Steps.{filledOf}
+use Rattle.filebook.specs.FileBook.{bookRead}
 
 -- ---- what a file of the form holds is what its words mean
 
@@ -54,8 +55,8 @@ module _ (t : Terms) (l : Places) (p : Printable t l) where
   read-good e f = rw (e, f)
 
   filled-words : inRange t ≡ true → allNear t 0 l ≡ true → filledOf terms cells ≡ bookOf (alone.bookOf (some (t, l)))
-  unfolding filledOf bookOf alone.bookOf changesOf
-  filled-words e f = rw (read-good e f)
+  unfolding filledOf bookOf alone.bookOf
+  filled-words e f = rw (read-good e f, none-kept KEPT)
 
   pub filled-formed : inRange t ≡ true → allNear t 0 l ≡ true → formedO (alone.bookOf (some (t, l))) ≡ true
   unfolding alone.bookOf formed takeable

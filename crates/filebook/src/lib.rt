@@ -3,25 +3,9 @@ ghost use mathlib.Core.Path.{_≡_};
 ghost use mathlib.Core.Option.{none};
 ghost use Rattle.book.specs.Meaning.{bookOf};
 ghost use Rattle.fieldfile.specs.Reader.{readOf};
-ghost use Rattle.filebook.specs.FileBook.{bookRead, filledOf};
-use book::Book;
+ghost use Rattle.filebook.specs.FileBook.{bookRead};
 use book::Step;
-use image::Layout;
 use procedure::Refusal;
-
-// An open book with these terms and readings, and nothing to take back.
-fn filled(terms: [u64; Layout::TERMS], cells: [u64; Layout::CELLS]) -> Book
-    ensures { λ r. ⌜ r ≡ filledOf terms cells ⌝ }
-{
-    let changes = [0u64; Layout::CHANGES];
-    Book {
-        opened: 1,
-        terms,
-        cells,
-        kept: 0,
-        changes,
-    }
-}
 
 // Beside a refusal the file's book is closed and empty.
 fn refused(refusal: u64) -> Step
@@ -46,7 +30,7 @@ pub fn read_book(file: &[u8]) -> Step
             if places::all_near(&terms, &cells) {
                 return Step {
                     refusal: 0,
-                    book: filled(terms, cells),
+                    book: book::filled(terms, cells),
                 };
             }
             return refused(Refusal::FAR);

@@ -12,9 +12,9 @@ use Rattle.paper.specs.Units.{inRange, allNear}
 use Rattle.paper.specs.Books.{Book}
 use Rattle.paper.specs.Form.{formed, takeable}
 use Rattle.image.specs.Lengths.{termsOf}
-use Rattle.image.specs.Places.{spots, placesOf}
+use Rattle.image.specs.Places.{placesOf}
 use Rattle.image.specs.Changes.{entries, zeros}
-use Rattle.image.proofs.Places.{length-spots}
+use Rattle.image.proofs.Places.{length-places}
 use Rattle.image.proofs.Changes.{length-entries}
 use Rattle.ranges.proofs.Laws.{both}
 use Rattle.form.specs.Whole.{blank, sound, wordsForm}
@@ -30,10 +30,10 @@ module _ (t l : List ℕ) (k : ℕ) (ch : List ℕ) where
   Taken = takeable (termsOf t) (placesOf l) (entries k ch)
 
   formed-is : k ≤ KEPT → inRange (termsOf t) && (Near && Taken) ≡ formed b
-  unfolding formed placesOf
+  unfolding formed
   formed-is h =
       let n : leb (length (entries k ch)) KEPT ≡ true = rw (length-entries k ch) (le-leb k KEPT h) in
-      rw (eq-eqb (length (spots PLACES l)) PLACES (length-spots PLACES l), n)
+      rw (eq-eqb (length (placesOf l)) PLACES (length-places l), n)
       (go (inRange (termsOf t)) Near)
     where
       go : (r n : Bool) → r && (n && Taken) ≡ r && true && n && true && Taken

@@ -4,18 +4,20 @@ use Prim.Native.Nat.{ℕ, zero, suc, _+_, _-_, _*_, _^_, _≤_, _<_}
 use native.Mathlib.Omega.{arith}
 use mathlib.Core.Path.{_≡_, refl, sym, ap, _∙_}
 use mathlib.Core.Logic.{⊎-elim}
-use mathlib.Core.List.{List, [], _∷_}
+use mathlib.Core.List.{List, [], _∷_, map}
 use lib.ListN.{length, getD}
 use lib.IntN.{ℤ, pos, negsuc, natAbs, _-ℤ_, subℕ}
 use mir.Syntax.{w64}
 use mir.Val.{toZ, ofZ, SFits}
 use mir.ValLaws.{toZ-ofZ}
 use borrow.Author.Tests.{lt-ltb, le-ltb}
+use Rattle.paper.specs.Procedure.{NEARBY}
+use Rattle.words.proofs.Elements.{elements, elements-all}
 use Rattle.integers.specs.Ring.{minus-minus}
 use Rattle.integers.specs.Diff.{bias-back, bias-le, minus-sub, sub-ge, sub-lt, sub-eq, ≤-or-<}
-use Rattle.paper.specs.Units.{Terms, approximate}
+use Rattle.paper.specs.Units.{Terms, termsGiven, termList, approximate}
 use Rattle.paper.specs.Figures.{along}
-use Rattle.image.specs.Lengths.{ORIGIN, GREATEST, len, word, wordOr, tripleAt, tripleWords, termsOf, termWords, termWordsOr}
+use Rattle.image.specs.Lengths.{ORIGIN, GREATEST, len, word, wordOr, tripleAt, termsOf, termWords, termWordsOr}
 use Rattle.image.specs.Places.{axisOf}
 
 -- ---- both ways
@@ -90,8 +92,8 @@ unfolding len
 len-difference a b h = sub-eq (a + ORIGIN - b) ORIGIN a b (omega arith) ∙ sym (len-minus a b)
 
 -- an offset, kept as a number from 0 to 200,000
-pub len-offset : (z Z : ℕ) → Z ≤ z + 100000 → len z -ℤ len Z ≡ pos (z + 100000 - Z) -ℤ pos 100000
-len-offset z Z h = len-minus z Z ∙ sub-eq z Z (z + 100000 - Z) 100000 (omega arith) ∙ sym (minus-sub (z + 100000 - Z) 100000)
+pub len-offset : (z Z : ℕ) → Z ≤ z + NEARBY → len z -ℤ len Z ≡ pos (z + NEARBY - Z) -ℤ pos NEARBY
+len-offset z Z h = len-minus z Z ∙ sub-eq z Z (z + NEARBY - Z) NEARBY (omega arith) ∙ sym (minus-sub (z + NEARBY - Z) NEARBY)
 
 -- ---- x, y, h together, and the terms
 
@@ -103,55 +105,70 @@ along-at l m (suc (suc zero)) h = refl
 along-at l m (suc (suc (suc a))) h = absurd (omega arith)
 
 pub point-at : (t : List ℕ) (k : ℕ) → 1 ≤ k → k ≤ 2 → approximate (termsOf t) k ≡ tripleAt t (6 + (k - 1) * 3)
-unfolding termsOf
+unfolding termsOf tripleAt
 point-at t zero h g = absurd (omega arith)
 point-at t (suc zero) h g = refl
 point-at t (suc (suc zero)) h g = refl
 point-at t (suc (suc (suc k))) h g = absurd (omega arith)
 
-pub length-terms : (t : Terms) → length (termWords t) ≡ 12
-unfolding termWords tripleWords
+pub length-terms : (t : Terms) → length (termList t) ≡ 12
+unfolding termList
 length-terms t = refl
-
-twelve : (t : List ℕ) → length t ≡ 12
-    → getD t 0 0 ∷ getD t 1 0 ∷ getD t 2 0 ∷ getD t 3 0 ∷ getD t 4 0 ∷ getD t 5 0 ∷ getD t 6 0 ∷ getD t 7 0 ∷ getD t 8 0 ∷ getD t 9 0 ∷ getD t 10 0 ∷ getD t 11 0 ∷ [] ≡ t
-twelve (a ∷ b ∷ c ∷ d ∷ e ∷ f ∷ g ∷ h ∷ i ∷ j ∷ k ∷ l ∷ []) n = refl
-twelve (a ∷ b ∷ c ∷ d ∷ e ∷ f ∷ g ∷ h ∷ i ∷ j ∷ k ∷ l ∷ m ∷ r) n = absurd (omega arith)
-twelve [] n = absurd (omega arith)
-twelve (a ∷ []) n = absurd (omega arith)
-twelve (a ∷ b ∷ []) n = absurd (omega arith)
-twelve (a ∷ b ∷ c ∷ []) n = absurd (omega arith)
-twelve (a ∷ b ∷ c ∷ d ∷ []) n = absurd (omega arith)
-twelve (a ∷ b ∷ c ∷ d ∷ e ∷ []) n = absurd (omega arith)
-twelve (a ∷ b ∷ c ∷ d ∷ e ∷ f ∷ []) n = absurd (omega arith)
-twelve (a ∷ b ∷ c ∷ d ∷ e ∷ f ∷ g ∷ []) n = absurd (omega arith)
-twelve (a ∷ b ∷ c ∷ d ∷ e ∷ f ∷ g ∷ h ∷ []) n = absurd (omega arith)
-twelve (a ∷ b ∷ c ∷ d ∷ e ∷ f ∷ g ∷ h ∷ i ∷ []) n = absurd (omega arith)
-twelve (a ∷ b ∷ c ∷ d ∷ e ∷ f ∷ g ∷ h ∷ i ∷ j ∷ []) n = absurd (omega arith)
-twelve (a ∷ b ∷ c ∷ d ∷ e ∷ f ∷ g ∷ h ∷ i ∷ j ∷ k ∷ []) n = absurd (omega arith)
 
 -- words to terms to words, whatever the words
 pub words-terms : (t : List ℕ) → length t ≡ 12 → termWords (termsOf t) ≡ t
-unfolding termWords termsOf tripleWords tripleAt
-words-terms t n = simp word-len (twelve t n)
+unfolding termList termsOf elements
+words-terms t n = simp word-len (elements-all 12 t 0 n)
+
+-- no term is too great to be a length
+abbrev pub ShortTerms : Terms → Type 0
+ShortTerms t = (i : ℕ) → natAbs (getD (termList t) i (pos 0)) < ORIGIN
+
+-- terms to words to terms
+pub terms-words : (t : Terms) → ShortTerms t → termsOf (termWords t) ≡ t
+unfolding termsOf termList
+terms-words t s = rw (
+  back (t .distance) (s 0),
+  back (t .height) (s 1),
+  back (t .screenXY) (s 2),
+  back (t .screenH) (s 3),
+  back (t .sigmaXY) (s 4),
+  back (t .sigmaH) (s 5),
+  back (t .point1 .x) (s 6),
+  back (t .point1 .y) (s 7),
+  back (t .point1 .h) (s 8),
+  back (t .point2 .x) (s 9),
+  back (t .point2 .y) (s 10),
+  back (t .point2 .h) (s 11),
+)
+  where
+    back : (z : ℤ) → natAbs z < ORIGIN → len (word z) ≡ z
+    back z h = len-word z (omega arith)
+
+words-or : (zs : List ℤ) → ((i : ℕ) → natAbs (getD zs i (pos 0)) < ORIGIN) → map wordOr zs ≡ map word zs
+words-or [] s = refl
+words-or (z ∷ zs) s = rw (wordOr-word z (s 0), words-or zs (λ i. s (suc i)))
+
+pub terms-words-or : (t : Terms) → ShortTerms t → termsOf (termWordsOr t) ≡ t
+terms-words-or t s = rw (words-or (termList t) s) (terms-words t s)
 
 -- twelve words of twelve numbers
-pub twelve-words : (t : Terms) (a b c d e f g h i j k l : ℕ)
-    → a ≡ wordOr (t .distance)
-    → b ≡ wordOr (t .height)
-    → c ≡ wordOr (t .screenXY)
-    → d ≡ wordOr (t .screenH)
-    → e ≡ wordOr (t .sigmaXY)
-    → f ≡ wordOr (t .sigmaH)
-    → g ≡ wordOr (t .point1 .x)
-    → h ≡ wordOr (t .point1 .y)
-    → i ≡ wordOr (t .point1 .h)
-    → j ≡ wordOr (t .point2 .x)
-    → k ≡ wordOr (t .point2 .y)
-    → l ≡ wordOr (t .point2 .h)
-    → a ∷ b ∷ c ∷ d ∷ e ∷ f ∷ g ∷ h ∷ i ∷ j ∷ k ∷ l ∷ [] ≡ termWordsOr t
-unfolding termWordsOr
-twelve-words t a b c d e f g h i j k l ea eb ec ed ee ef eg eh ei ej ek el = rw (ea, eb, ec, ed, ee, ef, eg, eh, ei, ej, ek, el)
+pub twelve-words : (a b c d e f g h i j k l : ℕ) (a′ b′ c′ d′ e′ f′ g′ h′ i′ j′ k′ l′ : ℤ)
+    → a ≡ wordOr a′
+    → b ≡ wordOr b′
+    → c ≡ wordOr c′
+    → d ≡ wordOr d′
+    → e ≡ wordOr e′
+    → f ≡ wordOr f′
+    → g ≡ wordOr g′
+    → h ≡ wordOr h′
+    → i ≡ wordOr i′
+    → j ≡ wordOr j′
+    → k ≡ wordOr k′
+    → l ≡ wordOr l′
+    → a ∷ b ∷ c ∷ d ∷ e ∷ f ∷ g ∷ h ∷ i ∷ j ∷ k ∷ l ∷ [] ≡ termWordsOr (termsGiven a′ b′ c′ d′ e′ f′ g′ h′ i′ j′ k′ l′)
+unfolding termList
+twelve-words a b c d e f g h i j k l a′ b′ c′ d′ e′ f′ g′ h′ i′ j′ k′ l′ ea eb ec ed ee ef eg eh ei ej ek el = rw (ea, eb, ec, ed, ee, ef, eg, eh, ei, ej, ek, el)
 
 -- a signed argument comes back from a call as it went
 pub repaired : {w : ℕ} (x : ℤ) → SFits w64 x → w ≡ wordOr (toZ w64 (ofZ w64 x)) → w ≡ wordOr x

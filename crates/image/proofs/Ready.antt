@@ -6,7 +6,7 @@ use mathlib.Core.Path.{_≡_, subst}
 use mathlib.Core.List.{List}
 use lib.ListN.{getD}
 use lib.IntN.{pos, _-ℤ_}
-use Rattle.paper.specs.Procedure.{POINTS, ROUNDS}
+use Rattle.paper.specs.Procedure.{POINTS, ROUNDS, EARTH, NEARBY}
 use Rattle.paper.specs.Figures.{offset}
 use Rattle.image.specs.Lengths.{ORIGIN, termsOf}
 use Rattle.image.specs.Places.{placesOf, axisOf}
@@ -17,25 +17,25 @@ module _ (t l : List ℕ) (r : Ready t l) (k a : ℕ) (one : 1 ≤ k) (two : k �
   abbrev f : ℕ
   f = (k - 1) * 3 + a
 
-  at : (i : ℕ) → i < ROUNDS → (getD l (i * 6 + f) 0 ≤ getD t (6 + f) 0 + 100000) × (getD t (6 + f) 0 ≤ getD l (i * 6 + f) 0 + 100000)
+  at : (i : ℕ) → i < ROUNDS → (getD l (i * 6 + f) 0 ≤ getD t (6 + f) 0 + NEARBY) × (getD t (6 + f) 0 ≤ getD l (i * 6 + f) 0 + NEARBY)
   at i h =
       let p = i * POINTS + (k - 1) in
       let e : p * 3 + a ≡ i * 6 + f = omega arith in
       let g : 6 + p % POINTS * 3 + a ≡ 6 + f = omega arith in
-      subst (λ (m : ℕ). (getD l m 0 ≤ getD t (6 + f) 0 + 100000) × (getD t (6 + f) 0 ≤ getD l m 0 + 100000)) e
-      (subst (λ (m : ℕ). (getD l (p * 3 + a) 0 ≤ getD t m 0 + 100000) × (getD t m 0 ≤ getD l (p * 3 + a) 0 + 100000)) g
+      subst (λ (m : ℕ). (getD l m 0 ≤ getD t (6 + f) 0 + NEARBY) × (getD t (6 + f) 0 ≤ getD l m 0 + NEARBY)) e
+      (subst (λ (m : ℕ). (getD l (p * 3 + a) 0 ≤ getD t m 0 + NEARBY) × (getD t m 0 ≤ getD l (p * 3 + a) 0 + NEARBY)) g
       (r .near p a (omega arith) axis))
 
-  pub kept-fits : (i : ℕ) → i < ROUNDS → getD t (6 + f) 0 ≤ getD l (i * 6 + f) 0 + 100000
+  pub kept-fits : (i : ℕ) → i < ROUNDS → getD t (6 + f) 0 ≤ getD l (i * 6 + f) 0 + NEARBY
   kept-fits i h = at i h .1
 
-  pub kept-low : (i : ℕ) → i < ROUNDS → getD l (i * 6 + f) 0 ≤ ORIGIN + 100000100000
+  pub kept-low : (i : ℕ) → i < ROUNDS → getD l (i * 6 + f) 0 ≤ ORIGIN + EARTH + NEARBY
   kept-low i h = omega (arith, at i h .0, r .points f (omega arith))
 
-  pub kept-small : (i : ℕ) → i < ROUNDS → kept t l f i ≤ 200000
+  pub kept-small : (i : ℕ) → i < ROUNDS → kept t l f i ≤ 2 * NEARBY
   kept-small i h = omega (arith, at i h .0)
 
-  pub kept-offset : (i : ℕ) → i < ROUNDS → offset (termsOf t) (placesOf l) (axisOf a) k i ≡ pos (kept t l f i) -ℤ pos 100000
+  pub kept-offset : (i : ℕ) → i < ROUNDS → offset (termsOf t) (placesOf l) (axisOf a) k i ≡ pos (kept t l f i) -ℤ pos NEARBY
   unfolding offset
   kept-offset i h =
       let p = i * POINTS + (k - 1) in

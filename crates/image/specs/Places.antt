@@ -2,9 +2,10 @@
 use Prim.Native.Nat.{ℕ, zero, suc, _+_}
 use mathlib.Core.Bool.{Bool, cond, _&&_}
 use mathlib.Core.Option.{none, some}
-use mathlib.Core.List.{List, [], _∷_, _++_}
-use lib.ListN.{getD, drop}
+use mathlib.Core.List.{List, [], _∷_}
+use lib.ListN.{getD}
 use lib.Dec.{eqb}
+use Rattle.words.specs.Blocks.{blocks, laid}
 use Rattle.paper.specs.Procedure.{PLACES}
 use Rattle.paper.specs.Units.{Place, inSheet, number, Spot, Places}
 use Rattle.paper.specs.Figures.{Axis, x-axis, y-axis, h-axis}
@@ -20,21 +21,19 @@ spotOf x y h = cond (allZero x y h) none (some (triple x y h))
 abbrev pub spotAt : List ℕ → ℕ → Spot
 spotAt l m = spotOf (getD l m 0) (getD l (m + 1) 0) (getD l (m + 2) 0)
 
--- the first n places
-unfoldable pub spots : ℕ → List ℕ → Places
-spots zero l = []
-spots (suc n) l = spotAt l 0 ∷ spots n (drop 3 l)
+-- the place that a row of words starts with
+abbrev pub spotIn : List ℕ → Spot
+spotIn l = spotAt l 0
 
 unfoldable pub placesOf : List ℕ → Places
-placesOf l = spots PLACES l
+placesOf l = blocks 3 spotIn PLACES l
 
 unfoldable pub spotWords : Spot → List ℕ
 spotWords none = 0 ∷ 0 ∷ 0 ∷ []
 spotWords (some v) = tripleWords v
 
-unfoldable pub cellsOf : Places → List ℕ
-cellsOf [] = []
-cellsOf (v ∷ l) = spotWords v ++ cellsOf l
+abbrev pub cellsOf : Places → List ℕ
+cellsOf l = laid spotWords l
 
 -- the axes in the order of the words
 abbrev pub axisOf : ℕ → Axis

@@ -3,7 +3,7 @@ use Prim.Native.Nat.{ℕ, _+_, _-_, _*_, _%_, _≤_, _<_}
 use mathlib.Core.Path.{_≡_}
 use mathlib.Core.List.{List}
 use lib.ListN.{getD}
-use Rattle.paper.specs.Procedure.{POINTS, PLACES}
+use Rattle.paper.specs.Procedure.{POINTS, PLACES, SPAN, SPREAD, EARTH, NEARBY}
 use Rattle.paper.specs.Units.{reading}
 use Rattle.image.specs.Lengths.{ORIGIN, tripleAt}
 use Rattle.image.specs.Places.{placesOf}
@@ -11,15 +11,19 @@ use Rattle.image.specs.Places.{placesOf}
 abbrev pub Between : ℕ → ℕ → ℕ → Type 0
 Between lo hi w = (lo ≤ w) × (w ≤ hi)
 
+-- the word of a screening or a stated deviation
+abbrev pub IsSpread : ℕ → Type 0
+IsSpread w = Between (ORIGIN + 1) (ORIGIN + SPREAD) w
+
 pub record Ready (t l : List ℕ) : Type 0 where
   pub reads : (p : ℕ) → p < PLACES → reading (placesOf l) p ≡ tripleAt l (p * 3)
-  pub near : (p a : ℕ) → p < PLACES → a < 3 → (getD l (p * 3 + a) 0 ≤ getD t (6 + p % POINTS * 3 + a) 0 + 100000) × (getD t (6 + p % POINTS * 3 + a) 0 ≤ getD l (p * 3 + a) 0 + 100000)
-  pub points : (a : ℕ) → a < 6 → getD t (6 + a) 0 ≤ ORIGIN + 100000000000
-  pub apart : (a : ℕ) → a < 3 → (getD t (9 + a) 0 ≤ getD t (6 + a) 0 + 500000) × (getD t (6 + a) 0 ≤ getD t (9 + a) 0 + 500000)
-  pub distance : Between (ORIGIN + 1) (ORIGIN + 500000) (getD t 0 0)
-  pub height : Between (ORIGIN - 500000) (ORIGIN + 500000) (getD t 1 0)
-  pub scales : (i : ℕ) → 2 ≤ i → i < 6 → Between (ORIGIN + 1) (ORIGIN + 10000) (getD t i 0)
+  pub near : (p a : ℕ) → p < PLACES → a < 3 → (getD l (p * 3 + a) 0 ≤ getD t (6 + p % POINTS * 3 + a) 0 + NEARBY) × (getD t (6 + p % POINTS * 3 + a) 0 ≤ getD l (p * 3 + a) 0 + NEARBY)
+  pub points : (a : ℕ) → a < 6 → getD t (6 + a) 0 ≤ ORIGIN + EARTH
+  pub apart : (a : ℕ) → a < 3 → (getD t (9 + a) 0 ≤ getD t (6 + a) 0 + SPAN) × (getD t (6 + a) 0 ≤ getD t (9 + a) 0 + SPAN)
+  pub distance : Between (ORIGIN + 1) (ORIGIN + SPAN) (getD t 0 0)
+  pub height : Between (ORIGIN - SPAN) (ORIGIN + SPAN) (getD t 1 0)
+  pub scales : (i : ℕ) → 2 ≤ i → i < 6 → IsSpread (getD t i 0)
 
--- reading i of a point and an axis, f = (point - 1) * 3 + axis, as the code keeps it: the offset + 100,000
+-- reading i of a point and an axis, f = (point - 1) * 3 + axis, as the code keeps it: the offset + NEARBY
 abbrev pub kept : List ℕ → List ℕ → ℕ → ℕ → ℕ
-kept t l f i = getD l (i * 6 + f) 0 + 100000 - getD t (6 + f) 0
+kept t l f i = getD l (i * 6 + f) 0 + NEARBY - getD t (6 + f) 0

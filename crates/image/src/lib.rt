@@ -2,8 +2,8 @@
 ghost use mathlib.Core.Path.{_≡_};
 ghost use Prim.Native.Nat.{_*_, _≤_, _<_};
 ghost use Rattle.paper.specs.Procedure.{SERIES, SETS, POINTS};
-ghost use Rattle.paper.specs.Units.{inOrder};
-ghost use Rattle.image.specs.Lengths.{ORIGIN, len, wordOr, termWordsOr, termsGiven};
+ghost use Rattle.paper.specs.Units.{termsGiven, inOrder};
+ghost use Rattle.image.specs.Lengths.{ORIGIN, len, wordOr, termWordsOr};
 ghost use Rattle.image.specs.Places.{placeOf};
 use procedure::Procedure;
 

@@ -1,42 +1,38 @@
 -- A call on one book leaves every byte of the others.
 -- Assumes nothing.
-use Prim.Native.Nat.{ℕ, zero, suc, _+_, _*_, _<_}
+use Prim.Native.Nat.{ℕ, zero, suc, _*_, _<_}
 use native.Mathlib.Omega.{arith}
 use mathlib.Core.Path.{_≡_, refl, sym, ap, _∙_}
 use mathlib.Core.Logic.{_≢_}
 use mathlib.Core.Bool.{Bool, true, false}
 use mathlib.Core.Option.{none}
-use mathlib.Core.List.{List, [], _∷_, _++_}
+use mathlib.Core.List.{List}
 use lib.ListN.{length, getD, take, drop}
-use lib.Seq.{drop-drop, take-at, drop-at}
+use lib.Seq.{take-at}
+use Rattle.words.specs.Blocks.{laid}
+use Rattle.words.proofs.Blocks.{laid-from}
+use Rattle.words.proofs.Words.{Bytes}
 use Rattle.paper.specs.Procedure.{BOOKS}
 use Rattle.paper.specs.Books as paper
 use Rattle.paper.specs.Calls.{Act, on, effect, affected}
 use Rattle.paper.specs.TurnedAway.{refusal}
 use Rattle.paper.specs.Answers.{unless, after}
-use Rattle.paper.specs.Form.{formedO}
-use Rattle.paper.proofs.Tests.{and-left, and-right}
+use Rattle.paper.specs.Form.{InForm}
 use Rattle.paper.proofs.Acts.{put-other}
 use Rattle.paper.proofs.Stays.{formed-after}
 use Rattle.stored.specs.Image.{BOOK, bookBytes}
-use Rattle.stored.proofs.Image.{Bytes, length-book}
 use Rattle.lent.specs.Image.{image, meantFrom, inForm, stateOf}
 use Rattle.lent.specs.Calls.{callOn, called}
-use Rattle.lent.proofs.Image.{allFormed, formed-in, state-in, state-out, form-image-is, form-state}
+use Rattle.lent.proofs.Image.{books-wide, state-in, state-out, form-image-is, form-state}
 
 -- the bytes of book i, counted from 0
 abbrev pub bytesAt : List ℕ → ℕ → List ℕ
 bytesAt bs i = take BOOK (drop (i * BOOK) bs)
 
-image-book : (r : paper.Register) (i : ℕ) → allFormed r ≡ true → i < length r → bytesAt (image r) i ≡ bookBytes (getD r i none)
-unfolding image allFormed
-image-book [] i e h = absurd (omega arith)
-image-book (o ∷ r) zero e h = take-at (bookBytes o) (image r) BOOK (length-book o (and-left (formedO o) (allFormed r) e))
-image-book (o ∷ r) (suc i) e h =
-    let n = length-book o (and-left (formedO o) (allFormed r) e) in
-    let j : suc i * BOOK ≡ BOOK + i * BOOK = omega arith in
-    rw (j, ← drop-drop (i * BOOK) BOOK (bookBytes o ++ image r), drop-at (bookBytes o) (image r) BOOK n)
-    (image-book r i (and-right (formedO o) (allFormed r) e) (omega arith))
+image-book : (r : paper.Register) (i : ℕ) → InForm r → i < length r → bytesAt (image r) i ≡ bookBytes (getD r i none)
+image-book r i v h =
+    let w = books-wide r v in
+    ap (take BOOK) (laid-from BOOK bookBytes none r i h w) ∙ take-at (bookBytes (getD r i none)) (laid bookBytes (drop (suc i) r)) BOOK (w i)
 
 after-other : (k i : ℕ) (a : Act) (r : paper.Register) → suc i ≢ k → getD (after (on k a) r) i none ≡ getD r i none
 unfolding after
@@ -60,6 +56,6 @@ frame bs k i a y h n = go (inForm bs) refl
         let v = form-state bs e in
         let w = formed-after (on k a) r v in
         rw (state-in bs e)
-        (image-book (after (on k a) r) i (formed-in (after (on k a) r) w) (omega (arith, w .sixteen))
+        (image-book (after (on k a) r) i w (omega (arith, w .sixteen))
         ∙ ap bookBytes (after-other k i a r n)
-        ∙ sym (ap (λ (l : List ℕ). bytesAt l i) (sym (form-image-is bs y e)) ∙ image-book r i (formed-in r v) (omega (arith, v .sixteen))))
+        ∙ sym (ap (λ (l : List ℕ). bytesAt l i) (sym (form-image-is bs y e)) ∙ image-book r i v (omega (arith, v .sixteen))))

@@ -1,13 +1,16 @@
 -- A register in bytes: sixteen books, one after another.
 -- (proofs/Image.antt: bytes that hold a register in form are its image, and each register in form is held by its image: one state, one image.)
-use Prim.Native.Nat.{ℕ, zero, suc, _-_, _*_}
-use mathlib.Core.Bool.{Bool, true, cond, _&&_}
+use Prim.Native.Nat.{ℕ, _-_, _*_}
+use mathlib.Core.Bool.{Bool, cond, _&&_}
 use mathlib.Core.Option.{Option, none, some}
-use mathlib.Core.List.{List, [], _∷_, _++_}
+use mathlib.Core.List.{List}
 use lib.ListN.{length, drop}
 use lib.Dec.{eqb}
+use Rattle.words.specs.Lists.{all?}
+use Rattle.words.specs.Blocks.{blocks, laid}
 use Rattle.paper.specs.Procedure.{BOOKS}
 use Rattle.paper.specs.Books as paper
+use Rattle.book.specs.declared.Book.{Book}
 use Rattle.book.specs.Meaning.{meant, bookForm}
 use Rattle.stored.specs.Image.{BOOK, bookBytes, bookAt}
 
@@ -15,20 +18,22 @@ use Rattle.stored.specs.Image.{BOOK, bookBytes, bookAt}
 abbrev pub LENGTH : ℕ
 LENGTH = BOOKS * BOOK
 
-unfoldable pub image : paper.Register → List ℕ
-image [] = []
-image (o ∷ r) = bookBytes o ++ image r
+abbrev pub image : paper.Register → List ℕ
+image r = laid bookBytes r
 
 -- ---- what bytes hold
 
--- n books from the start
-unfoldable pub formFrom : ℕ → List ℕ → Bool
-formFrom zero bs = true
-formFrom (suc n) bs = bookForm (bookAt bs 0) && formFrom n (drop BOOK bs)
+-- the book that a row of bytes starts with
+abbrev pub bookIn : List ℕ → Book
+bookIn bs = bookAt bs 0
 
-unfoldable pub meantFrom : ℕ → List ℕ → paper.Register
-meantFrom zero bs = []
-meantFrom (suc n) bs = meant (bookAt bs 0) ∷ meantFrom n (drop BOOK bs)
+-- each of the first n books is in form
+abbrev pub formFrom : ℕ → List ℕ → Bool
+formFrom n bs = all? bookForm (blocks BOOK bookIn n bs)
+
+-- what they mean
+abbrev pub meantFrom : ℕ → List ℕ → paper.Register
+meantFrom n bs = blocks BOOK (λ l. meant (bookIn l)) n bs
 
 -- the length is right and every book is in form
 unfoldable pub inForm : List ℕ → Bool

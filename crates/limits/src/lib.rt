@@ -7,7 +7,7 @@ ghost use lib.IntN.{pos, natAbs, _-ℤ_};
 ghost use Rattle.whole.specs.Nearest.{nearestOf};
 ghost use Rattle.paper.specs.Screening.{square, passes};
 ghost use Rattle.image.specs.Lengths.{ORIGIN, len};
-ghost use Rattle.image.specs.Ready.{Between};
+ghost use Rattle.image.specs.Ready.{IsSpread};
 ghost use Rattle.limits.specs.Most.{mostPassing};
 use image::ORIGIN;
 
@@ -23,7 +23,7 @@ pub fn apart(a: u64, b: u64) -> u64
 
 // 25·s², which twice the square of a difference may reach. The screening length s is a word.
 fn limit(s: u64) -> u64
-    requires { ⌜ Between (ORIGIN + 1) (ORIGIN + 10000) s ⌝ }
+    requires { ⌜ IsSpread s ⌝ }
     ensures { λ r. ⌜ (r ≡ 25 * square (len s)) × (r ≤ 2500000000) ⌝ }
 {
     let k = s - ORIGIN;
@@ -32,7 +32,7 @@ fn limit(s: u64) -> u64
 
 // The greatest difference that passes.
 pub fn most_passing(s: u64) -> u64
-    requires { ⌜ Between (ORIGIN + 1) (ORIGIN + 10000) s ⌝ }
+    requires { ⌜ IsSpread s ⌝ }
     ensures { λ r. ⌜ r ≡ mostPassing (len s) ⌝ }
 {
     let most = limit(s);
@@ -55,7 +55,7 @@ pub fn further(q: u64, about: u64, most: u64) -> bool
 
 // Whether a difference is beyond the limit of a screening length.
 pub fn beyond(s: u64, d: u64) -> bool
-    requires { ⌜ Between (ORIGIN + 1) (ORIGIN + 10000) s × (d ≤ 2000000) ⌝ }
+    requires { ⌜ IsSpread s × (d ≤ 2000000) ⌝ }
     ensures { λ r. ⌜ r ≡ not (passes (len s) d) ⌝ }
 {
     let most = limit(s);

@@ -14,7 +14,7 @@ use Rattle.whole.specs.Root.{digits, rootOf}
 use Rattle.whole.specs.Greatest.{greatestOf}
 use Rattle.whole.specs.Nearest.{nearestOf}
 use Rattle.paper.specs.Procedure.{SERIES, SETS, POINTS, PLACES}
-use Rattle.paper.specs.Units.{Triple, zeros, Terms, onEarth, within, inRange, near, Place, inSheet, inOrder, allNear, Places}
+use Rattle.paper.specs.Units.{Triple, zeros, Terms, termsBy, onEarth, within, inRange, near, Place, inSheet, inOrder, allNear, Places}
 use Rattle.paper.specs.Screening.{q, D, distanceOff, heightOff, passes, Suspect, suspicious, each, sheetOrder, first, firstSuspect}
 use Rattle.paper.specs.Figures.{x-axis, offset, S, Q, residual15, P, shown, figures}
 use Rattle.paper.specs.Verdicts.{boundXY, boundH, judgedXY, judgedH, evaluation, bothWithin, sum, samePopulation}
@@ -46,19 +46,7 @@ replaced [] l = l
 replaced (o ∷ os) l = replaced os (set l (o .0) (o .1))
 
 termsOf : List ℤ → Terms
-unfolding triple
-termsOf l =
-    let n : ℕ → ℤ = λ i. getD l i (pos 0) in
-    record {
-      distance = n 0;
-      height = n 1;
-      screenXY = n 2;
-      screenH = n 3;
-      sigmaXY = n 4;
-      sigmaH = n 5;
-      point1 = triple (n 6) (n 7) (n 8);
-      point2 = triple (n 9) (n 10) (n 11);
-    }
+termsOf l = termsBy (λ i. getD l i (pos 0))
 
 unfoldable pub termsWith : List (ℕ × ℤ) → Terms
 unfolding termsOf replaced numbers

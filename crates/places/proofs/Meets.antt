@@ -11,16 +11,16 @@ use lib.ListN.{length, getD}
 use lib.IntN.{natAbs, _-ℤ_}
 use borrow.Author.Tests.{leb-true}
 use Rattle.integers.specs.Diff.{sub-ge, sub-lt, ≤-or-<, abs-sub-range}
-use Rattle.paper.specs.Procedure.{PLACES}
+use Rattle.paper.specs.Procedure.{PLACES, SPAN, SPREAD, EARTH, NEARBY}
 use Rattle.paper.specs.Units.{from1To, onEarth, within, inRange, isEmpty, Places, nearAt, allNear, reading, standing}
 use Rattle.paper.specs.TurnedAway.{some?}
 use Rattle.paper.proofs.Tests.{among, along-within}
 use Rattle.paper.proofs.Stays.{near-there}
 use Rattle.image.specs.Lengths.{ORIGIN, len, tripleAt, termsOf}
 use Rattle.image.specs.Places.{allZero, spotOf, spotAt, placesOf, axisOf}
-use Rattle.image.specs.Ready.{Ready, Between}
+use Rattle.image.specs.Ready.{Ready, Between, IsSpread}
 use Rattle.image.proofs.Lengths.{len-minus, along-at}
-use Rattle.image.proofs.Places.{place-at, length-spots, empty-spot}
+use Rattle.image.proofs.Places.{place-at, length-places, empty-spot}
 use Rattle.image.proofs.Bounds.{Ranged, ranged, along-earth}
 use Rattle.ranges.proofs.Laws.{near-at-point}
 use Rattle.places.proofs.Laws.{spot-some}
@@ -45,8 +45,8 @@ one-range n w e =
 within-at : (n : ℕ) (t l : List ℕ) (k m a : ℕ) → within n (tripleAt t k) (tripleAt l m) ≡ true → a < 3 → (getD l (m + a) 0 ≤ getD t (k + a) 0 + n) × (getD t (k + a) 0 ≤ getD l (m + a) 0 + n)
 within-at n t l k m a e h = up-range n (getD t (k + a) 0) (getD l (m + a) 0) (rw (along-at l m a h, along-at t k a h) at (along-within n (axisOf a) (tripleAt t k) (tripleAt l m) e))
 
-earth-at : (t : List ℕ) (k a : ℕ) → onEarth (tripleAt t k) ≡ true → a < 3 → getD t (k + a) 0 ≤ ORIGIN + 100000000000
-earth-at t k a e h = up-zero 100000000000 (getD t (k + a) 0) (rw (along-at t k a h) at (along-earth (axisOf a) (tripleAt t k) e)) .0
+earth-at : (t : List ℕ) (k a : ℕ) → onEarth (tripleAt t k) ≡ true → a < 3 → getD t (k + a) 0 ≤ ORIGIN + EARTH
+earth-at t k a e h = up-zero EARTH (getD t (k + a) 0) (rw (along-at t k a h) at (along-earth (axisOf a) (tripleAt t k) e)) .0
 
 -- ---- places
 
@@ -74,8 +74,7 @@ module _ (t l : List ℕ) (range : inRange (termsOf t) ≡ true) (near : allNear
   h p = getD l (p * 3 + 2) 0
 
   not-zero : (p : ℕ) → p < PLACES → allZero (x p) (y p) (h p) ≡ false
-  unfolding placesOf
-  not-zero p k = sym (empty-spot (x p) (y p) (h p)) ∙ ap isEmpty (sym (place-at l p k)) ∙ full-at (placesOf l) p full (rw (length-spots PLACES l) k)
+  not-zero p k = sym (empty-spot (x p) (y p) (h p)) ∙ ap isEmpty (sym (place-at l p k)) ∙ full-at (placesOf l) p full (rw (length-places l) k)
 
   reads : (p : ℕ) → p < PLACES → reading (placesOf l) p ≡ tripleAt l (p * 3)
   unfolding spotOf tripleAt
@@ -84,43 +83,43 @@ module _ (t l : List ℕ) (range : inRange (termsOf t) ≡ true) (near : allNear
   near-by : (p : ℕ) → p < PLACES → nearAt (termsOf t) p (spotAt l (p * 3)) ≡ true
   near-by p k = subst (λ v. nearAt (termsOf t) p v ≡ true) (place-at l p k) (near-there (termsOf t) (placesOf l) p near)
 
-  nears : (p a : ℕ) → p < PLACES → a < 3 → (getD l (p * 3 + a) 0 ≤ getD t (6 + p % 2 * 3 + a) 0 + 100000) × (getD t (6 + p % 2 * 3 + a) 0 ≤ getD l (p * 3 + a) 0 + 100000)
+  nears : (p a : ℕ) → p < PLACES → a < 3 → (getD l (p * 3 + a) 0 ≤ getD t (6 + p % 2 * 3 + a) 0 + NEARBY) × (getD t (6 + p % 2 * 3 + a) 0 ≤ getD l (p * 3 + a) 0 + NEARBY)
   unfolding tripleAt
-  nears p a k g = within-at 100000 t l (6 + p % 2 * 3) (p * 3) a (near-at-point t (x p) (y p) (h p) p ∙ spot-some (x p) (y p) (h p) (termsOf t) p (not-zero p k) ∙ near-by p k) g
+  nears p a k g = within-at NEARBY t l (6 + p % 2 * 3) (p * 3) a (near-at-point t (x p) (y p) (h p) p ∙ spot-some (x p) (y p) (h p) (termsOf t) p (not-zero p k) ∙ near-by p k) g
 
   terms : Ranged (termsOf t)
   terms = ranged (termsOf t) range
 
-  points : (a : ℕ) → a < 6 → getD t (6 + a) 0 ≤ ORIGIN + 100000000000
-  unfolding termsOf
+  points : (a : ℕ) → a < 6 → getD t (6 + a) 0 ≤ ORIGIN + EARTH
+  unfolding termsOf tripleAt
   points a h =
       ⊎-elim
-      (λ (g : 3 ≤ a). let j : 9 + (a - 3) ≡ 6 + a = omega arith in subst (λ (k : ℕ). getD t k 0 ≤ ORIGIN + 100000000000) j (earth-at t 9 (a - 3) (terms .point2) (omega arith)))
+      (λ (g : 3 ≤ a). let j : 9 + (a - 3) ≡ 6 + a = omega arith in subst (λ (k : ℕ). getD t k 0 ≤ ORIGIN + EARTH) j (earth-at t 9 (a - 3) (terms .point2) (omega arith)))
       (λ (g : a < 3). earth-at t 6 a (terms .point1) g)
       (≤-or-< a 3)
 
-  sized : (i : ℕ) → 2 ≤ i → i < 6 → Between (ORIGIN + 1) (ORIGIN + 10000) (getD t i 0)
+  sized : (i : ℕ) → 2 ≤ i → i < 6 → IsSpread (getD t i 0)
   unfolding termsOf
   sized zero h g = absurd (omega arith)
   sized (suc zero) h g = absurd (omega arith)
-  sized (suc (suc zero)) h g = one-range 10000 (getD t 2 0) (terms .screenXY)
-  sized (suc (suc (suc zero))) h g = one-range 10000 (getD t 3 0) (terms .screenH)
-  sized (suc (suc (suc (suc zero)))) h g = one-range 10000 (getD t 4 0) (terms .sigmaXY)
-  sized (suc (suc (suc (suc (suc zero))))) h g = one-range 10000 (getD t 5 0) (terms .sigmaH)
+  sized (suc (suc zero)) h g = one-range SPREAD (getD t 2 0) (terms .screenXY)
+  sized (suc (suc (suc zero))) h g = one-range SPREAD (getD t 3 0) (terms .screenH)
+  sized (suc (suc (suc (suc zero)))) h g = one-range SPREAD (getD t 4 0) (terms .sigmaXY)
+  sized (suc (suc (suc (suc (suc zero))))) h g = one-range SPREAD (getD t 5 0) (terms .sigmaH)
   sized (suc (suc (suc (suc (suc (suc i)))))) h g = absurd (omega arith)
 
-  heights : Between (ORIGIN - 500000) (ORIGIN + 500000) (getD t 1 0)
+  heights : Between (ORIGIN - SPAN) (ORIGIN + SPAN) (getD t 1 0)
   unfolding termsOf
-  heights = let k = up-zero 500000 (getD t 1 0) (leb-true _ 500000 (terms .height)) in (omega arith, omega arith)
+  heights = let k = up-zero SPAN (getD t 1 0) (leb-true _ SPAN (terms .height)) in (omega arith, omega arith)
 
   pub ready : Ready t l
-  unfolding termsOf
+  unfolding termsOf tripleAt
   ready = record {
     reads = reads;
     near = nears;
     points = points;
-    apart = λ a h. within-at 500000 t t 6 9 a (terms .apart) h;
-    distance = one-range 500000 (getD t 0 0) (terms .distance);
+    apart = λ a h. within-at SPAN t t 6 9 a (terms .apart) h;
+    distance = one-range SPAN (getD t 0 0) (terms .distance);
     height = heights;
     scales = sized;
   }

@@ -6,11 +6,13 @@ use mathlib.Core.Path.{_≡_, refl, sym, ap, _∙_}
 use mathlib.Core.Bool.{Bool, true, false, _&&_, and-true}
 use mathlib.Core.List.{List, [], _∷_}
 use lib.ListN.{drop}
-use lib.Seq.{drop-drop, getD-drop}
+use Rattle.words.specs.Blocks.{blocks}
+use Rattle.words.proofs.Blocks.{blocks-turn, blocks-over}
 use Rattle.paper.specs.Procedure.{ROUNDS, PLACES}
-use Rattle.paper.specs.Units.{Terms, Places, isEmpty, nearAt, allNear}
+use Rattle.paper.specs.Units.{Terms, Spot, Places, isEmpty, nearAt, allNear}
 use Rattle.paper.specs.TurnedAway.{some?}
-use Rattle.image.specs.Places.{spotAt, spots, placesOf}
+use Rattle.image.specs.Places.{spotAt, spotIn, placesOf}
+use Rattle.image.proofs.Places.{spot-on}
 
 three-first : (n a b c : Bool) → (n && a && b) && c ≡ n && (a && (b && c))
 three-first true true b c = refl
@@ -21,23 +23,17 @@ three-first false a b c = refl
 
 module _ (cells : List ℕ) where
   abbrev from : ℕ → Places
-  from p = spots (PLACES - p) (drop (p * 3) cells)
+  from p = blocks 3 spotIn (PLACES - p) (drop (p * 3) cells)
 
   start : placesOf cells ≡ from 0
   unfolding placesOf
   start = refl
 
   turn : (p : ℕ) → p < PLACES → from p ≡ spotAt cells (p * 3) ∷ from (p + 1)
-  unfolding spots
-  turn p h =
-      let e : PLACES - p ≡ suc (PLACES - (p + 1)) = omega arith in
-      let z : p * 3 + 0 ≡ p * 3 = omega arith in
-      let g : p * 3 + 3 ≡ (p + 1) * 3 = omega arith in
-      rw (e, getD-drop (p * 3) cells 0 0, getD-drop (p * 3) cells 1 0, getD-drop (p * 3) cells 2 0, drop-drop 3 (p * 3) cells, z, g)
+  turn p h = blocks-turn 3 spotIn PLACES p cells h ∙ ap (λ (v : Spot). v ∷ from (p + 1)) (spot-on cells (p * 3))
 
   over : (p : ℕ) → p ≡ PLACES → from p ≡ []
-  unfolding spots
-  over p e = rw e
+  over p e = blocks-over 3 spotIn PLACES p (drop (p * 3) cells) (omega arith)
 
   abbrev pub nearFrom : Terms → ℕ → Bool
   nearFrom t p = allNear t p (from p)

@@ -1,5 +1,5 @@
 -- The numbers of the procedure as `constants` gives them, and of the refusals as `refusals` does.
-use Rattle.paper.specs.Procedure.{SERIES, SETS, POINTS, ROUNDS, PLACES, DEGREES-H, DEGREES-XY, BOOKS, KEPT}
+use Rattle.paper.specs.Procedure.{SERIES, SETS, POINTS, ROUNDS, PLACES, DEGREES-H, DEGREES-XY, BOOKS, KEPT, SPAN, SPREAD, EARTH, NEARBY}
 use Rattle.paper.specs.Refusals.{REGISTER, PLACE, OPEN, TERMS, CLOSED, FILLED, EMPTY, FAR, NOTHING, SHORT, SUSPECT, ZERO, ROOM, FORM}
 use Rattle.procedure.specs.declared.Numbers.{Numbers}
 use Rattle.procedure.specs.declared.Refusals.{Refusals}
@@ -15,6 +15,10 @@ numbers = record {
   «degrees_xy» = DEGREES-XY;
   books = BOOKS;
   kept = KEPT;
+  span = SPAN;
+  spread = SPREAD;
+  earth = EARTH;
+  nearby = NEARBY;
 }
 
 abbrev pub refusals : Refusals

@@ -25,6 +25,23 @@ impl Procedure {
     pub const KEPT: usize = 32;
 }
 
+// The ranges of lengths.
+pub struct Range;
+
+impl Range {
+    // Between the two points.
+    pub const SPAN: u64 = 500000;
+
+    // A screening or a stated deviation.
+    pub const SPREAD: u64 = 10000;
+
+    // The approximate values of a point.
+    pub const EARTH: u64 = 100000000000;
+
+    // From a reading to its point's approximate value.
+    pub const NEARBY: u64 = 100000;
+}
+
 pub struct Numbers {
     pub series: usize,
     pub sets: usize,
@@ -35,9 +52,13 @@ pub struct Numbers {
     pub degrees_xy: usize,
     pub books: usize,
     pub kept: usize,
+    pub span: u64,
+    pub spread: u64,
+    pub earth: u64,
+    pub nearby: u64,
 }
 
-// The constants of `Procedure` are the paper's.
+// The constants of `Procedure` and `Range` are the paper's.
 pub fn constants() -> Numbers
     ensures { λ r. ⌜ r ≡ numbers ⌝ }
 {
@@ -51,6 +72,10 @@ pub fn constants() -> Numbers
         degrees_xy: Procedure::DEGREES_XY,
         books: Procedure::BOOKS,
         kept: Procedure::KEPT,
+        span: Range::SPAN,
+        spread: Range::SPREAD,
+        earth: Range::EARTH,
+        nearby: Range::NEARBY,
     }
 }
 

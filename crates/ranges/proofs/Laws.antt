@@ -10,6 +10,7 @@ use lib.ListN.{getD}
 use lib.Dec.{leb, ltb}
 use lib.IntN.{ℤ, _-ℤ_, subℕ}
 use borrow.Author.Tests.{lt-ltb, le-ltb, le-leb, lt-leb}
+use Rattle.paper.specs.Procedure.{SPAN, SPREAD, EARTH, NEARBY}
 use Rattle.integers.specs.Diff.{sub-ge, sub-lt, ≤-or-<}
 use Rattle.paper.specs.Units.{onEarth, inRange, from1To, upTo, within, near, pointOf}
 use Rattle.image.specs.Lengths.{ORIGIN, len, triple, tripleAt, termsOf}
@@ -56,9 +57,9 @@ length-is w = refl
 pub from-zero : (n w : ℕ) → upTo n (len w -ℤ len ORIGIN) ≡ upTo n (len w)
 from-zero n w = ap (upTo n) (len-minus w ORIGIN ∙ length-is w)
 
-pub earth : (x y h : ℕ) → within 100000000000 (triple ORIGIN ORIGIN ORIGIN) (triple x y h) ≡ onEarth (triple x y h)
+pub earth : (x y h : ℕ) → within EARTH (triple ORIGIN ORIGIN ORIGIN) (triple x y h) ≡ onEarth (triple x y h)
 unfolding within onEarth
-earth x y h = both (both (from-zero 100000000000 x) (from-zero 100000000000 y)) (from-zero 100000000000 h)
+earth x y h = both (both (from-zero EARTH x) (from-zero EARTH y)) (from-zero EARTH h)
 
 module _ (t : List ℕ) where
   abbrev l : ℕ → ℤ
@@ -68,11 +69,11 @@ module _ (t : List ℕ) where
   and-four true b c d = refl
   and-four false b c d = refl
 
-  pub range-is : from1To 500000 (l 0) && upTo 500000 (l 1) && from1To 10000 (l 2) && from1To 10000 (l 3) && from1To 10000 (l 4) && from1To 10000 (l 5) && (onEarth (tripleAt t 6) && onEarth (tripleAt t 9) && within 500000 (tripleAt t 6) (tripleAt t 9)) ≡ inRange (termsOf t)
-  unfolding inRange termsOf
-  range-is = and-four (from1To 500000 (l 0) && upTo 500000 (l 1) && from1To 10000 (l 2) && from1To 10000 (l 3) && from1To 10000 (l 4) && from1To 10000 (l 5)) _ _ _
+  pub range-is : from1To SPAN (l 0) && upTo SPAN (l 1) && from1To SPREAD (l 2) && from1To SPREAD (l 3) && from1To SPREAD (l 4) && from1To SPREAD (l 5) && (onEarth (tripleAt t 6) && onEarth (tripleAt t 9) && within SPAN (tripleAt t 6) (tripleAt t 9)) ≡ inRange (termsOf t)
+  unfolding inRange termsOf tripleAt
+  range-is = and-four (from1To SPAN (l 0) && upTo SPAN (l 1) && from1To SPREAD (l 2) && from1To SPREAD (l 3) && from1To SPREAD (l 4) && from1To SPREAD (l 5)) _ _ _
 
-  pub near-at-point : (x y h p : ℕ) → within 100000 (tripleAt t (6 + p % 2 * 3)) (triple x y h) ≡ near (termsOf t) (pointOf p) (triple x y h)
+  pub near-at-point : (x y h p : ℕ) → within NEARBY (tripleAt t (6 + p % 2 * 3)) (triple x y h) ≡ near (termsOf t) (pointOf p) (triple x y h)
   near-at-point x y h p =
       let k : p % 2 + 1 - 1 ≡ p % 2 = omega arith in
-      ap (λ v. within 100000 v (triple x y h)) (sym (point-at t (p % 2 + 1) (omega arith) (omega arith) ∙ ap (λ (n : ℕ). tripleAt t (6 + n * 3)) k))
+      ap (λ v. within NEARBY v (triple x y h)) (sym (point-at t (p % 2 + 1) (omega arith) (omega arith) ∙ ap (λ (n : ℕ). tripleAt t (6 + n * 3)) k))

@@ -4,11 +4,13 @@ ghost use mathlib.Core.Path.{_≡_};
 ghost use mathlib.Core.Bool.{_&&_};
 ghost use Prim.Native.Nat.{_≤_};
 ghost use lib.IntN.{_-ℤ_};
+ghost use Rattle.paper.specs.Procedure.{SPAN};
 ghost use Rattle.paper.specs.Units.{from1To, upTo, onEarth, within, inRange, near, pointOf};
 ghost use Rattle.image.specs.Lengths.{ORIGIN, len, triple, tripleAt, termsOf};
 use image::Layout;
 use image::ORIGIN;
 use procedure::Procedure;
+use procedure::Range;
 
 // A length from 1 to n.
 fn from_1_to(n: u64, w: u64) -> bool
@@ -37,7 +39,7 @@ fn around(n: u64, ax: u64, ay: u64, ah: u64, x: u64, y: u64, h: u64) -> bool
 
 // The approximate values of the two points, and how far these are apart.
 fn points_ok(t: &[u64; Layout::TERMS]) -> bool
-    ensures { λ r. ⌜ r ≡ (onEarth (tripleAt (now (t .entry)) 6) && onEarth (tripleAt (now (t .entry)) 9) && within 500000 (tripleAt (now (t .entry)) 6) (tripleAt (now (t .entry)) 9)) ⌝ }
+    ensures { λ r. ⌜ r ≡ (onEarth (tripleAt (now (t .entry)) 6) && onEarth (tripleAt (now (t .entry)) 9) && within SPAN (tripleAt (now (t .entry)) 6) (tripleAt (now (t .entry)) 9)) ⌝ }
 {
     let x = t[6];
     let y = t[7];
@@ -45,21 +47,21 @@ fn points_ok(t: &[u64; Layout::TERMS]) -> bool
     let x2 = t[9];
     let y2 = t[10];
     let h2 = t[11];
-    around(100000000000, ORIGIN, ORIGIN, ORIGIN, x, y, h)
-        & around(100000000000, ORIGIN, ORIGIN, ORIGIN, x2, y2, h2)
-        & around(500000, x, y, h, x2, y2, h2)
+    around(Range::EARTH, ORIGIN, ORIGIN, ORIGIN, x, y, h)
+        & around(Range::EARTH, ORIGIN, ORIGIN, ORIGIN, x2, y2, h2)
+        & around(Range::SPAN, x, y, h, x2, y2, h2)
 }
 
 // Every term in its range.
 pub fn in_range(t: &[u64; Layout::TERMS]) -> bool
     ensures { λ r. ⌜ r ≡ inRange (termsOf (now (t .entry))) ⌝ }
 {
-    from_1_to(500000, t[0])
-        & close(500000, ORIGIN, t[1])
-        & from_1_to(10000, t[2])
-        & from_1_to(10000, t[3])
-        & from_1_to(10000, t[4])
-        & from_1_to(10000, t[5])
+    from_1_to(Range::SPAN, t[0])
+        & close(Range::SPAN, ORIGIN, t[1])
+        & from_1_to(Range::SPREAD, t[2])
+        & from_1_to(Range::SPREAD, t[3])
+        & from_1_to(Range::SPREAD, t[4])
+        & from_1_to(Range::SPREAD, t[5])
         & points_ok(t)
 }
 
@@ -68,5 +70,5 @@ pub fn near(t: &[u64; Layout::TERMS], place: usize, x: u64, y: u64, h: u64) -> b
     ensures { λ r. ⌜ r ≡ near (termsOf (now (t .entry))) (pointOf place) (triple x y h) ⌝ }
 {
     let k = 6 + place % Procedure::POINTS * 3;
-    around(100000, t[k], t[k + 1], t[k + 2], x, y, h)
+    around(Range::NEARBY, t[k], t[k + 1], t[k + 2], x, y, h)
 }

@@ -9,7 +9,7 @@ use lib.ListN.{getD}
 use lib.Dec.{ltb}
 use lib.IntN.{pos, natAbs, _-ℤ_}
 use Rattle.whole.specs.Nearest.{nearestOf}
-use Rattle.paper.specs.Procedure.{SERIES, SETS, POINTS}
+use Rattle.paper.specs.Procedure.{SERIES, SETS, POINTS, SPREAD}
 use Rattle.paper.specs.Units.{inOrder}
 use Rattle.paper.specs.Screening.{at, q, D, distanceOff, heightOff, passes, suspicious}
 use Rattle.image.specs.Lengths.{ORIGIN, len, tripleAt, termsOf}
@@ -31,7 +31,7 @@ pub most-small : (t l : List ℕ) → Ready t l → (most : ℕ) → most ≡ mo
 unfolding termsOf
 most-small t l r most e =
     let g = r .scales 2 (omega arith) (omega arith) in
-    let k : getD t 2 0 - ORIGIN ≤ 10000 = omega arith in
+    let k : getD t 2 0 - ORIGIN ≤ SPREAD = omega arith in
     let h : mostPassing (len (getD t 2 0)) ≤ 50000 = most-le (len (getD t 2 0)) (rw (len-pos (getD t 2 0) (omega arith)) (omega (arith, squared k))) in
     omega (arith, r .distance)
 

@@ -8,7 +8,7 @@ use native.Mathlib.Omega.{arith}
 use lib.ListN.{length, drop}
 use Rattle.words.specs.Paste.{pasted}
 use Rattle.paper.specs.Units.{Triple}
-use Rattle.image.specs.Lengths.{word, tripleWords}
+use Rattle.image.specs.Lengths.{word}
 use Rattle.image.specs.Places.{spotWords}
 use Rattle.decimals.specs.Reader.{got, bad, fixed, numbers}
 use Rattle.decimals.specs.Given.{Got, Gives, Nothing, Laid}
@@ -20,7 +20,7 @@ use Rattle.fieldfile.proofs.Lists.{triple-from}
 use Rattle.spots.specs.Given.{Placed}
 
 spot-words : (v : Triple) → spotWords (some v) ≡ map word (v .x ∷ v .y ∷ v .h ∷ [])
-unfolding spotWords tripleWords
+unfolding spotWords
 spot-words v = refl
 
 module _ (s : List ℕ) (at k left : ℕ) (cells : List ℕ) (base : ℕ) (last : List ℕ) where

@@ -1,21 +1,22 @@
 -- What each turn of the loop over the kept changes says.
 -- Assumes nothing.
-use Prim.Native.Nat.{ℕ, suc, _+_, _-_, _*_, _≤_, _<_}
+use Prim.Native.Nat.{ℕ, _+_, _-_, _*_, _≤_, _<_}
 use native.Mathlib.Omega.{arith}
-use mathlib.Core.Path.{_≡_, sym, _∙_}
+use mathlib.Core.Path.{_≡_, sym, ap, _∙_}
 use mathlib.Core.Bool.{Bool, true, false, _&&_, and-true, and-false}
 use mathlib.Core.List.{List, _∷_}
 use lib.ListN.{length, getD, set, drop, length-set}
-use lib.Seq.{drop-drop, getD-drop}
+use lib.Seq.{getD-drop}
 use lib.Dec.{eqb}
+use Rattle.words.proofs.Blocks.{blocks-turn, blocks-over}
 use Rattle.paper.specs.Procedure.{PLACES}
 use Rattle.paper.specs.Units.{Terms, Places}
 use Rattle.paper.specs.Books.{Change, make}
 use Rattle.paper.specs.Form.{fits, takeable}
 use Rattle.paper.proofs.Form.{fit-reaches}
 use Rattle.image.specs.Places.{allZero, spotOf, placesOf}
-use Rattle.image.specs.Changes.{change, entries}
-use Rattle.image.proofs.Places.{length-spots}
+use Rattle.image.specs.Changes.{change, changeIn, entries}
+use Rattle.image.proofs.Places.{length-places}
 use Rattle.places.specs.Marks.{Marks}
 use Rattle.standing.specs.Marked.{fitsMarked}
 use Rattle.standing.proofs.Marked.{fits-marked, marks-put}
@@ -29,16 +30,16 @@ module _ (t : Terms) (ch : List ℕ) (n : ℕ) where
   abbrev changeAt : ℕ → Change
   changeAt j = change (getD ch (j * 4) 0) (spotOf (getD ch (j * 4 + 1) 0) (getD ch (j * 4 + 2) 0) (getD ch (j * 4 + 3) 0))
 
+  change-on : (j : ℕ) → changeIn (drop (j * 4) ch) ≡ changeAt j
+  change-on j =
+      let z : j * 4 + 0 ≡ j * 4 = omega arith in
+      rw (getD-drop (j * 4) ch 0 0, getD-drop (j * 4) ch 1 0, getD-drop (j * 4) ch 2 0, getD-drop (j * 4) ch 3 0, z)
+
   takeable-start : (l : Places) → takeable t l (entries n ch) ≡ takeableFrom l 0
   takeable-start l = let e : n - 0 ≡ n = omega arith in rw e
 
   entries-turn : (j : ℕ) → j < n → entries (n - j) (drop (j * 4) ch) ≡ changeAt j ∷ entries (n - (j + 1)) (drop ((j + 1) * 4) ch)
-  unfolding entries
-  entries-turn j h =
-      let e : n - j ≡ suc (n - (j + 1)) = omega arith in
-      let f : j * 4 + 4 ≡ (j + 1) * 4 = omega arith in
-      let z : j * 4 + 0 ≡ j * 4 = omega arith in
-      rw (e, getD-drop (j * 4) ch 0 0, getD-drop (j * 4) ch 1 0, getD-drop (j * 4) ch 2 0, getD-drop (j * 4) ch 3 0, drop-drop 4 (j * 4) ch, f, z)
+  entries-turn j h = blocks-turn 4 changeIn n j ch h ∙ ap (λ (c : Change). c ∷ entries (n - (j + 1)) (drop ((j + 1) * 4) ch)) (change-on j)
 
   takeable-on : (l : Places) (j : ℕ) → j < n → fits t l (changeAt j) ≡ true → takeableFrom l j ≡ takeableFrom (make (changeAt j) l) (j + 1)
   unfolding takeable
@@ -49,8 +50,8 @@ module _ (t : Terms) (ch : List ℕ) (n : ℕ) where
   takeable-stop l j h e = rw (entries-turn j h, e)
 
   takeable-end : (l : Places) (j : ℕ) → n ≤ j → takeableFrom l j ≡ true
-  unfolding takeable entries
-  takeable-end l j h = let e : n - j ≡ 0 = omega arith in rw e
+  unfolding takeable
+  takeable-end l j h = rw (blocks-over 4 changeIn n j (drop (j * 4) ch) h)
 
 -- ---- the same, where no more is known of the places than their marks
 
@@ -58,8 +59,7 @@ abbrev pub Stands : Terms → Places → List ℕ → ℕ → List ℕ → ℕ �
 Stands t before ch n m j = (l : Places) × (length l ≡ PLACES) × Marks m l × (takeable t before (entries n ch) ≡ takeableFrom t ch n l j)
 
 pub stands-start : (t : Terms) (cells ch : List ℕ) (n : ℕ) (m : List ℕ) → Marks m (placesOf cells) → Stands t (placesOf cells) ch n m 0
-unfolding placesOf
-stands-start t cells ch n m k = (placesOf cells, length-spots PLACES cells, k, takeable-start t ch n (placesOf cells))
+stands-start t cells ch n m k = (placesOf cells, length-places cells, k, takeable-start t ch n (placesOf cells))
 
 module _ (t : Terms) (before : Places) (ch : List ℕ) (n : ℕ) (m : List ℕ) (j : ℕ) (s : Stands t before ch n m j) where
   abbrev Found : Bool → Type 0

@@ -4,11 +4,13 @@ use mathlib.Core.Path.{_≡_, refl, sym, ap, _∙_}
 use mathlib.Core.List.{List, _∷_, _++_, append-assoc, append-nil}
 use Prim.Native.Nat.{ℕ, _+_, _*_, _^_, _≤_, _<_}
 use native.Mathlib.Omega.{arith}
-use lib.ListN.{length, take, drop, getD, length-append}
+use lib.ListN.{length, take, drop, length-append}
+use Rattle.words.specs.Blocks.{laid}
 use Rattle.words.specs.Words.{le, digits, words, bytesOf}
 use Rattle.words.specs.Paste.{pasted}
-use Rattle.words.proofs.Words.{length-digits, length-bytesOf, bytesOf-append}
-use Rattle.words.proofs.Paste.{pasted-then, drop-pasted, next-drop, words-front, le-front}
+use Rattle.words.proofs.Blocks.{laid-append}
+use Rattle.words.proofs.Words.{Small, length-digits, length-bytesOf, words-front, word-front}
+use Rattle.words.proofs.Paste.{pasted-then, drop-pasted, next-drop}
 use Rattle.book.specs.declared.Book.{Book}
 use Rattle.book.proofs.Meaning.{Sized}
 use Rattle.stored.specs.Image.{BOOK, wordsOf, bookAt}
@@ -29,15 +31,15 @@ pub both : (r r₁ r₂ : List ℕ) (a w : ℕ) (ws : List ℕ) → a + 8 + 8 * 
     → r₁ ≡ pasted r a (digits 8 w)
     → r₂ ≡ pasted r₁ (a + 8) (bytesOf ws)
     → r₂ ≡ pasted r a (bytesOf (w ∷ ws))
-unfolding bytesOf
+unfolding laid
 both r r₁ r₂ a w ws h e₁ e₂ =
     let n = length-digits 8 w in
     let m = length-bytesOf ws in
     (rw e₁ at e₂) ∙ pasted-then r a (digits 8 w) (a + 8) (bytesOf ws) (omega arith) (omega arith)
 
 book-bytes : (b : Book) → bytesOf (b .opened ∷ b .terms) ++ bytesOf (b .cells) ++ bytesOf (b .kept ∷ b .changes) ≡ bytesOf (wordsOf b)
-unfolding wordsOf bytesOf
-book-bytes b = simp (bytesOf-append, append-assoc, append-nil)
+unfolding wordsOf laid
+book-bytes b = simp (laid-append, append-assoc, append-nil)
 
 pub stored : (r r₁ r₂ r₃ : List ℕ) (a : ℕ) (b : Book) → Sized b → a + BOOK ≤ length r
     → r₁ ≡ pasted r a (bytesOf (b .opened ∷ b .terms))
@@ -57,15 +59,15 @@ stored r r₁ r₂ r₃ a b s h e₁ e₂ e₃ =
 -- each word of a book is a word
 pub record Fit (b : Book) : Type 0 where
   pub opened : b .opened < 2 ^ 64
-  pub terms : (i : ℕ) → getD (b .terms) i 0 < 2 ^ 64
-  pub cells : (i : ℕ) → getD (b .cells) i 0 < 2 ^ 64
+  pub terms : Small (b .terms)
+  pub cells : Small (b .cells)
   pub kept : b .kept < 2 ^ 64
-  pub changes : (i : ℕ) → getD (b .changes) i 0 < 2 ^ 64
+  pub changes : Small (b .changes)
 
 -- what is stored is read back
 pub read-back : (r : List ℕ) (a : ℕ) (b : Book) → Sized b → Fit b → a ≤ length r
     → bookAt (pasted r a (bytesOf (wordsOf b))) a ≡ b
-unfolding bytesOf
+unfolding laid
 read-back r a b s f h =
     let x = bytesOf (wordsOf b) in
     let q = pasted r a x in
@@ -86,8 +88,8 @@ read-back r a b s f h =
     let d₄ : drop (a + 832) q ≡ z₃ = next-drop q (digits 8 (b .kept)) z₃ (a + 824) 8 (a + 832) d₃ n₃ (omega arith) in
     sym
     (book-eq q a (b .opened) (b .terms) (b .cells) (b .kept) (b .changes)
-    (rw d₀ (sym (le-front (b .opened) z₀ (f .opened))))
+    (rw d₀ (sym (word-front (b .opened) z₀ (f .opened))))
     (rw (d₁, ← s .terms-12) (sym (words-front (b .terms) z₁ (f .terms))))
     (rw (d₂, ← s .cells-90) (sym (words-front (b .cells) z₂ (f .cells))))
-    (rw d₃ (sym (le-front (b .kept) z₃ (f .kept))))
+    (rw d₃ (sym (word-front (b .kept) z₃ (f .kept))))
     (rw (d₄, ← s .changes-128) (sym (words-front (b .changes) z (f .changes)))))

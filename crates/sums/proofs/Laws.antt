@@ -8,7 +8,7 @@ use mathlib.Core.List.{List}
 use lib.IntN.{ℤ, pos, _-ℤ_, subℕ}
 use Rattle.integers.specs.Nats.{two-sq}
 use Rattle.integers.specs.Sigma.{ΣN, ΣN-next, Res, Σ-cong, Res-kept}
-use Rattle.paper.specs.Procedure.{POINTS, ROUNDS, PLACES}
+use Rattle.paper.specs.Procedure.{POINTS, ROUNDS, PLACES, NEARBY}
 use Rattle.paper.specs.Units.{Terms, Places, pointOf}
 use Rattle.paper.specs.Figures.{Axis, x-axis, y-axis, h-axis, Q, S, offset, both, P, residual15}
 use Rattle.paper.proofs.Agreement.{Q-of-kept}
@@ -25,7 +25,7 @@ use Rattle.sums.proofs.Places.{number-back}
 quarter : (s d : ℕ) → 4 * (s * d) ≤ (s + d) * (s + d)
 quarter s d = omega (arith, two-sq s d)
 
-pub most : (s q : ℕ) → q ≤ 200000 * s → s ≤ 3000000 → ROUNDS * q - s * s ≤ 2250000000000
+pub most : (s q : ℕ) → q ≤ 2 * NEARBY * s → s ≤ 3000000 → ROUNDS * q - s * s ≤ 2250000000000
 most s q h k =
     let d = 3000000 - s in
     let e : s + d ≡ 3000000 = omega arith in
@@ -33,7 +33,7 @@ most s q h k =
     let i : s * (s + d) ≡ s * 3000000 = ap (λ (m : ℕ). s * m) e in
     omega arith
 
-pub sq-step : (u : ℕ) → u ≤ 200000 → u * u ≤ 200000 * u
+pub sq-step : (u : ℕ) → u ≤ 2 * NEARBY → u * u ≤ 2 * NEARBY * u
 sq-step u h = mul-le-mul h (omega arith)
 
 -- one more kept number, or square of one
@@ -48,7 +48,7 @@ pub Q-words : (t l : List ℕ) (r : Ready t l) (k a : ℕ) → 1 ≤ k → k ≤
     → s ≡ ΣN ROUNDS (keptOf t l k a) → q ≡ ΣN ROUNDS (λ (i : ℕ). keptOf t l k a i * keptOf t l k a i)
     → ROUNDS * q - s * s ≡ Q (termsOf t) (placesOf l) (axisOf a) k
 Q-words t l r k a one two axis s q es eq =
-    rw (es, eq) (sym (Q-of-kept (termsOf t) (placesOf l) (axisOf a) k 100000 (keptOf t l k a) (kept-offset t l r k a one two axis)))
+    rw (es, eq) (sym (Q-of-kept (termsOf t) (placesOf l) (axisOf a) k NEARBY (keptOf t l k a) (kept-offset t l r k a one two axis)))
 
 -- the residual of the place with a number, as that of its set
 own-residual : (t : Terms) (l : Places) (n : ℕ) (a : Axis) → residual15 t l (placeAt n) a ≡ Res ROUNDS (offset t l a (pointOf n)) (n / POINTS)
@@ -59,7 +59,7 @@ pub residual-words : (t l : List ℕ) (r : Ready t l) (n a : ℕ) → n < PLACES
     → s ≡ ΣN ROUNDS (keptOf t l (pointOf n) a) → u ≡ keptOf t l (pointOf n) a (n / POINTS)
     → subℕ s (ROUNDS * u) ≡ residual15 (termsOf t) (placesOf l) (placeAt n) (axisOf a)
 residual-words t l r n a h axis s u es eu =
-    rw eu (Res-kept 100000 ROUNDS (keptOf t l k a) s j es) ∙ sym moved ∙ sym (own-residual (termsOf t) (placesOf l) n (axisOf a))
+    rw eu (Res-kept NEARBY ROUNDS (keptOf t l k a) s j es) ∙ sym moved ∙ sym (own-residual (termsOf t) (placesOf l) n (axisOf a))
   where
     k : ℕ
     k = pointOf n
@@ -70,11 +70,11 @@ residual-words t l r n a h axis s u es eu =
     e : ℕ → ℤ
     e = offset (termsOf t) (placesOf l) (axisOf a) k
 
-    as-kept : (i : ℕ) → i < ROUNDS → e i ≡ pos (keptOf t l k a i) -ℤ pos 100000
+    as-kept : (i : ℕ) → i < ROUNDS → e i ≡ pos (keptOf t l k a i) -ℤ pos NEARBY
     as-kept = kept-offset t l r k a (omega arith) (omega arith) axis
 
-    moved : Res ROUNDS e j ≡ Res ROUNDS (λ (i : ℕ). pos (keptOf t l k a i) -ℤ pos 100000) j
-    moved = rw (Σ-cong ROUNDS e (λ (i : ℕ). pos (keptOf t l k a i) -ℤ pos 100000) as-kept, as-kept j (omega arith))
+    moved : Res ROUNDS e j ≡ Res ROUNDS (λ (i : ℕ). pos (keptOf t l k a i) -ℤ pos NEARBY) j
+    moved = rw (Σ-cong ROUNDS e (λ (i : ℕ). pos (keptOf t l k a i) -ℤ pos NEARBY) as-kept, as-kept j (omega arith))
 
 pub totals-are : (t : Terms) (l : Places) (x y h : ℕ) → x ≡ both t l x-axis → y ≡ both t l y-axis → h ≡ both t l h-axis
     → _≡_ {A = Totals} (record { qx = x; qy = y; p = x + y; qh = h }) (totalsOf t l)

@@ -3,7 +3,7 @@ use Prim.Native.Nat.{ℕ, _+_, _-_, _*_, _≤_}
 use mathlib.Core.Path.{_≡_}
 use mathlib.Core.List.{List}
 use Rattle.integers.specs.Sigma.{ΣN}
-use Rattle.paper.specs.Procedure.{ROUNDS}
+use Rattle.paper.specs.Procedure.{ROUNDS, NEARBY}
 use Rattle.paper.specs.Units.{Terms, Places}
 use Rattle.paper.specs.Figures.{Qx, Qy, Qh, P}
 use Rattle.image.specs.Ready.{kept}
@@ -19,7 +19,7 @@ pub record Adds (t l : List ℕ) (k a : ℕ) (r : Added) : Type 0 where
   pub s : r .s ≡ ΣN ROUNDS (keptOf t l k a)
   pub q : r .q ≡ ΣN ROUNDS (λ (i : ℕ). keptOf t l k a i * keptOf t l k a i)
   pub s-most : r .s ≤ 3000000
-  pub q-most : r .q ≤ 200000 * r .s
+  pub q-most : r .q ≤ 2 * NEARBY * r .s
 
 -- the four sums of the paper
 unfoldable pub totalsOf : Terms → Places → Totals

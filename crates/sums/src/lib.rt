@@ -1,7 +1,7 @@
 // The sums and the residuals of a full book in form, in whole numbers, from its words.
 ghost use mathlib.Core.Path.{_≡_};
-ghost use Prim.Native.Nat.{_≤_, _<_};
-ghost use Rattle.paper.specs.Procedure.{POINTS, ROUNDS, PLACES};
+ghost use Prim.Native.Nat.{_*_, _≤_, _<_};
+ghost use Rattle.paper.specs.Procedure.{POINTS, ROUNDS, PLACES, NEARBY};
 ghost use Rattle.paper.specs.Figures.{Q, both, residual15};
 ghost use Rattle.image.specs.Lengths.{termsOf};
 ghost use Rattle.image.specs.Places.{placesOf, axisOf};
@@ -10,6 +10,7 @@ ghost use Rattle.sums.specs.Sums.{keptOf, Adds, totalsOf, AllModest};
 ghost use Rattle.sums.specs.Places.{placeAt};
 use image::Layout;
 use procedure::Procedure;
+use procedure::Range;
 
 // The words of a set: x, y, h of each point.
 const SET: usize = Procedure::POINTS * 3;
@@ -17,7 +18,7 @@ const SET: usize = Procedure::POINTS * 3;
 // Where the approximate values stand among the terms.
 const APPROXIMATE: usize = 6;
 
-// Reading i of a point along an axis (0 x, 1 y, 2 h), kept as its offset + 100,000.
+// Reading i of a point along an axis (0 x, 1 y, 2 h), kept as its offset + NEARBY, which is not negative.
 fn kept(
     terms: &[u64; Layout::TERMS],
     cells: &[u64; Layout::CELLS],
@@ -26,10 +27,10 @@ fn kept(
     i: usize,
 ) -> u64
     requires { ⌜ (1 ≤ point) × (point ≤ POINTS) × (axis < 3) × (i < ROUNDS) × Ready (now terms) (now cells) ⌝ }
-    ensures { λ r. ⌜ (r ≡ keptOf (now (terms .entry)) (now (cells .entry)) point axis i) × (r ≤ 200000) ⌝ }
+    ensures { λ r. ⌜ (r ≡ keptOf (now (terms .entry)) (now (cells .entry)) point axis i) × (r ≤ 2 * NEARBY) ⌝ }
 {
     let from = (point - 1) * 3 + axis;
-    cells[i * SET + from] + 100000 - terms[APPROXIMATE + from]
+    cells[i * SET + from] + Range::NEARBY - terms[APPROXIMATE + from]
 }
 
 // The sum of kept numbers, and the sum of their squares.

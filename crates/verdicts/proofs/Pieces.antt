@@ -11,6 +11,7 @@ use Rattle.paper.specs.declared.Judged.{Judged}
 use Rattle.image.specs.Lengths.{ORIGIN, len}
 use Rattle.image.proofs.Lengths.{len-up}
 use Rattle.decimals.specs.Ascii.{ascii}
+use Rattle.words.specs.Lists.{All}
 use Rattle.decimals.specs.Numbers.{AllShort, line}
 use Rattle.decimals.proofs.Long.{long-line}
 use Rattle.printing.specs.Given.{Put}
@@ -62,7 +63,7 @@ all-fit [] = Unit
 all-fit (n ∷ ns) = Fits n × all-fit ns
 
 pub long-numbers : (ns : List ℕ) → all-fit ns → length (line (map pos ns)) ≤ 14 * length (map pos ns)
-unfolding all-fit AllShort
+unfolding all-fit All
 long-numbers ns h = long-line (map pos ns) (short ns h)
   where
     short : (ns : List ℕ) → all-fit ns → AllShort (map pos ns)

@@ -1,14 +1,18 @@
 -- Laws of words in a row of bytes.
 -- Assumes nothing.
-use mathlib.Core.Path.{_≡_, refl, sym, ap, subst}
-use mathlib.Core.List.{List, [], _∷_, _++_, append-assoc}
+use mathlib.Core.Path.{_≡_, refl, sym, ap, _∙_, subst}
+use mathlib.Core.List.{List, [], _∷_, _++_, append-nil}
 use Prim.Native.Nat.{ℕ, zero, suc, _+_, _*_, _/_, _%_, _^_, _≤_, _<_}
 use native.Mathlib.Numerals.{add-one, unary-clauses}
 use native.Mathlib.Omega.{arith}
-use native.Mathlib.Nat.{mul-suc, mul-zero, add-zero, mul-comm, suc-add, zero-add, mul-assoc, pow-succ', div-one, div-div-eq-div-mul}
-use lib.ListN.{set, length, take, drop, getD, take-append-drop, length-append, length-drop, drop-of-length-le}
-use lib.Seq.{set-at, append-snoc, drop-cons, drop-drop, length-take-le, getD-drop}
-use Rattle.words.specs.Words.{le, fourAt, digits, words, bytesOf}
+use native.Mathlib.Nat.{mul-zero, add-zero, suc-add, zero-add, mul-assoc, pow-succ', div-one, div-div-eq-div-mul}
+use lib.ListN.{set, length, take, drop, getD, length-drop}
+use lib.Seq.{set-at, append-snoc, drop-cons, drop-drop, length-take-le, getD-drop, take-at, take-suc}
+use Rattle.words.specs.Blocks.{blocks, laid}
+use Rattle.words.specs.Words.{le, fourAt, digits, wordIn, words, bytesOf}
+use Rattle.words.specs.Paste.{pasted}
+use Rattle.words.proofs.Paste.{pasted-then, stores-pasted}
+use Rattle.words.proofs.Blocks.{length-blocks, blocks-add, blocks-laid, laid-blocks, length-laid, laid-append}
 
 -- ---- digits
 
@@ -51,11 +55,44 @@ digits-parts (suc n) m w = rw (suc-add, digits-parts n m (w / 256), pow-succ' 25
 
 -- ---- words
 
-pub below-take : (n : ℕ) (bs : List ℕ) → ((i : ℕ) → getD bs i 0 < 256) → (i : ℕ) → getD (take n bs) i 0 < 256
-below-take zero bs h i = omega arith
-below-take (suc n) [] h i = omega arith
-below-take (suc n) (b ∷ bs) h zero = h 0
-below-take (suc n) (b ∷ bs) h (suc i) = below-take n bs (λ j. h (suc j)) i
+-- each byte of a row is one
+abbrev pub Bytes : List ℕ → Type 0
+Bytes bs = (i : ℕ) → getD bs i 0 < 256
+
+-- each word of a row is one
+abbrev pub Small : List ℕ → Type 0
+Small ws = (i : ℕ) → getD ws i 0 < 2 ^ 64
+
+pub bytes-drop : (m : ℕ) (bs : List ℕ) → Bytes bs → Bytes (drop m bs)
+bytes-drop m bs h i = rw getD-drop (h (m + i))
+
+bytes-take : (n : ℕ) (bs : List ℕ) → Bytes bs → Bytes (take n bs)
+bytes-take zero bs h i = omega arith
+bytes-take (suc n) [] h i = omega arith
+bytes-take (suc n) (b ∷ bs) h zero = h 0
+bytes-take (suc n) (b ∷ bs) h (suc i) = bytes-take n bs (λ j. h (suc j)) i
+
+pub length-bytesOf : (ws : List ℕ) → length (bytesOf ws) ≡ 8 * length ws
+length-bytesOf ws = omega (arith, length-laid 8 (digits 8) 0 ws (λ i. length-digits 8 (getD ws i 0)))
+
+-- bytes to words to bytes
+pub bytesOf-words : (n : ℕ) (bs : List ℕ) → 8 * n ≤ length bs → Bytes bs → bytesOf (words n bs) ≡ take (n * 8) bs
+bytesOf-words n bs e h = laid-blocks 8 (digits 8) 0 wordIn n bs back
+  where
+    back : (k : ℕ) → k < n → digits 8 (wordIn (drop (k * 8) bs)) ≡ take 8 (drop (k * 8) bs)
+    back k m =
+        let l = take 8 (drop (k * 8) bs) in
+        let n8 : length l ≡ 8 = length-take-le 8 (drop (k * 8) bs) (rw length-drop (omega arith)) in
+        subst (λ (i : ℕ). digits i (le l) ≡ l) n8 (digits-le l (bytes-take 8 (drop (k * 8) bs) (bytes-drop (k * 8) bs h)))
+
+-- words to bytes to words
+pub word-front : (w : ℕ) (z : List ℕ) → w < 2 ^ 64 → wordIn (digits 8 w ++ z) ≡ w
+word-front w z h = rw (take-at (digits 8 w) z 8 (length-digits 8 w)) (le-digits 8 w h)
+
+pub words-front : (ws z : List ℕ) → Small ws → words (length ws) (bytesOf ws ++ z) ≡ ws
+words-front ws z h = blocks-laid 8 (digits 8) 0 wordIn ws z (λ i. length-digits 8 (getD ws i 0)) (λ i l. word-front (getD ws i 0) l (h i))
+
+-- ---- a word in halves
 
 sucs : (bs : List ℕ) (at : ℕ)
     → le (getD bs at 0 ∷ getD bs (suc at) 0 ∷ getD bs (suc (suc at)) 0 ∷ getD bs (suc (suc (suc at))) 0 ∷ [])
@@ -81,41 +118,37 @@ le-halves bs at h =
     rw (← le-four bs at (omega arith), ← le-four bs (at + 4) (omega arith), ← drop-drop 4 at bs)
     (le-parts 4 4 (drop at bs) (simp length-drop (omega arith)))
 
-pub length-words : (n : ℕ) (bs : List ℕ) → length (words n bs) ≡ n
-unfolding words
-length-words zero bs = refl
-length-words (suc n) bs = ap suc (length-words n (drop 8 bs))
+pub halves-pasted : (l : List ℕ) (at w : ℕ) → at + 8 ≤ length l
+    → pasted (pasted l at (digits 4 w)) (at + 4) (digits 4 (w / 4294967296)) ≡ pasted l at (digits 8 w)
+halves-pasted l at w h =
+    pasted-then l at (digits 4 w) (at + 4) (digits 4 (w / 4294967296)) (rw length-digits) (rw length-digits (omega arith))
+    ∙ ap (pasted l at) (sym (digits-parts 4 4 w))
 
-pub words-add : (n m : ℕ) (bs : List ℕ) → words (n + m) bs ≡ words n bs ++ words m (drop (8 * n) bs)
-unfolding words
-words-add zero m bs = rw zero-add
-words-add (suc n) m bs =
-    let e : 8 + 8 * n ≡ 8 * suc n = omega (arith, mul-suc 8 n) in
-    rw (suc-add, words-add n m (drop 8 bs), drop-drop, e)
-
-pub length-bytesOf : (ws : List ℕ) → length (bytesOf ws) ≡ 8 * length ws
-unfolding bytesOf
-length-bytesOf [] = refl
-length-bytesOf (w ∷ ws) = simp (length-append, length-digits, length-bytesOf ws) (omega (arith, mul-suc 8 (length ws)))
-
-pub bytesOf-append : (xs ys : List ℕ) → bytesOf (xs ++ ys) ≡ bytesOf xs ++ bytesOf ys
-unfolding bytesOf
-bytesOf-append [] ys = refl
-bytesOf-append (x ∷ xs) ys = rw (bytesOf-append xs ys, append-assoc)
-
-pub bytesOf-words : (n : ℕ) (bs : List ℕ) → length bs ≡ 8 * n → ((i : ℕ) → getD bs i 0 < 256) → bytesOf (words n bs) ≡ bs
-unfolding words bytesOf
-bytesOf-words zero bs e h = sym (drop-of-length-le bs {i = 0} (omega arith))
-bytesOf-words (suc n) bs e h =
-    let l8 : length (take 8 bs) ≡ 8 = length-take-le 8 bs (omega (arith, mul-suc 8 n)) in
-    let d : digits 8 (le (take 8 bs)) ≡ take 8 bs =
-    subst (λ (k : ℕ). digits k (le (take 8 bs)) ≡ take 8 bs) l8 (digits-le (take 8 bs) (below-take 8 bs h)) in
-    rw (d, bytesOf-words n (drop 8 bs) (simp length-drop (omega (arith, mul-suc 8 n))) (λ i. rw getD-drop (h (8 + i)))) (take-append-drop 8 bs)
+pub four-pasted : (l : List ℕ) (at w : ℕ) → at + 4 ≤ length l
+    → set (set (set (set l at (w % 256)) (at + 1) (w / 256 % 256)) (at + 2) (w / 256 / 256 % 256)) (at + 3) (w / 256 / 256 / 256 % 256)
+    ≡ pasted l at (digits 4 w)
+unfolding digits
+four-pasted l at w h = simp unary-clauses (stores-pasted (digits 4 w) l at h)
 
 -- ---- a turn of each loop
 
-pub load-turn : (bs out₀ : List ℕ) (i : ℕ) → i < length out₀
-    → set (words i bs ++ drop i out₀) i (le (take 8 (drop (i * 8) bs))) ≡ words (i + 1) bs ++ drop (i + 1) out₀
-unfolding words
+load-turn : (bs out₀ : List ℕ) (i : ℕ) → i < length out₀
+    → set (words i bs ++ drop i out₀) i (wordIn (drop (i * 8) bs)) ≡ words (i + 1) bs ++ drop (i + 1) out₀
+unfolding blocks
 load-turn bs out₀ i h =
-    rw (drop-cons out₀ i 0, set-at (words i bs) _ _ _ i (length-words i bs), words-add i 1 bs, append-snoc, add-one i, mul-comm i 8)
+    rw (drop-cons out₀ i 0, set-at (words i bs) _ _ _ i (length-blocks 8 wordIn i bs), blocks-add 8 wordIn i 1 bs, append-snoc, add-one i)
+
+pub load-at-turn : (bs out₀ : List ℕ) (at i : ℕ) → i < length out₀
+    → set (words i (drop at bs) ++ drop i out₀) i (wordIn (drop (at + i * 8) bs)) ≡ words (i + 1) (drop at bs) ++ drop (i + 1) out₀
+load-at-turn bs out₀ at i h = rw (← drop-drop (i * 8) at bs) (load-turn (drop at bs) out₀ i h)
+
+one-word : (w : ℕ) → bytesOf (w ∷ []) ≡ digits 8 w
+unfolding laid
+one-word w = append-nil (digits 8 w)
+
+pub store-at-turn : (r ws : List ℕ) (at i : ℕ) → i < length ws → at + 8 * length ws ≤ length r
+    → pasted (pasted r at (bytesOf (take i ws))) (at + i * 8) (digits 8 (getD ws i 0)) ≡ pasted r at (bytesOf (take (i + 1) ws))
+store-at-turn r ws at i h k =
+    let l : length (bytesOf (take i ws)) ≡ 8 * i = rw (length-bytesOf, length-take-le i ws (omega arith)) in
+    pasted-then r at (bytesOf (take i ws)) (at + i * 8) (digits 8 (getD ws i 0)) (omega arith) (rw length-digits (omega arith))
+    ∙ rw (add-one i, take-suc ws i 0, laid-append) (ap (λ (l : List ℕ). pasted r at (bytesOf (take i ws) ++ l)) (sym (one-word (getD ws i 0))))

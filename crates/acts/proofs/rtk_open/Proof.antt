@@ -2,7 +2,7 @@ use mir.Syntax.{w64}
 use mir.ValLaws.{toZ-ofZ}
 use native.Mathlib.Omega.{arith}
 use Rattle.paper.specs.Calls.{Act, begin}
-use Rattle.image.specs.Lengths.{termsGiven}
+use Rattle.paper.specs.Units.{termsGiven}
 use Rattle.acts.proofs.Acted.{accepted-length, acted}
 use borrow.Author.Needs.{needs}
 use Rattle.acts.proofs.rtk_open.Statement.{statement}

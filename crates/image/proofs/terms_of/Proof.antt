@@ -42,7 +42,7 @@ word-of-requires-12 c κs = search needs
 returns : tie.Need-returns
 returns c =
     let s = c .before .before .before .before .before .before .before .before .before .before .before .before in
-    twelve-words _ _ _ _ _ _ _ _ _ _ _ _ _
+    twelve-words _ _ _ _ _ _ _ _ _ _ _ _ _ _ _ _ _ _ _ _ _ _ _ _
     (repaired (s .args .distance) (s .fits .distance) (c .before .before .before .before .before .before .before .before .before .before .before .word-of .ensures))
     (repaired (s .args .height) (s .fits .height) (c .before .before .before .before .before .before .before .before .before .before .word-of2 .ensures))
     (repaired (s .args .sxy) (s .fits .sxy) (c .before .before .before .before .before .before .before .before .before .word-of3 .ensures))

@@ -2,13 +2,14 @@
 use Prim.Native.Nat.{_-_, _≤_}
 use native.Mathlib.Omega.{arith}
 use borrow.Author.Needs.{needs}
+use Rattle.paper.specs.Procedure.{SPREAD}
 use Rattle.image.specs.Lengths.{ORIGIN}
 use Rattle.limits.proofs.Limits.{squared, limit-is}
 use Rattle.limits.proofs.limit.Statement.{statement}
 use Rattle.limits.proofs.limit.Tie as tie
 
 -- a screening length is at most 10,000
-least : (c : tie.Start) → c .args .s - ORIGIN ≤ 10000
+least : (c : tie.Start) → c .args .s - ORIGIN ≤ SPREAD
 least c = omega (arith, c .pre)
 
 sub-k : tie.Need-sub-k

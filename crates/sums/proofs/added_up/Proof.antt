@@ -4,7 +4,7 @@ use native.Mathlib.Omega.{arith}
 use mathlib.Core.Path.{_≡_, ap}
 use borrow.Author.Needs.{needs}
 use Rattle.integers.specs.Sigma.{ΣN}
-use Rattle.paper.specs.Procedure.{ROUNDS}
+use Rattle.paper.specs.Procedure.{ROUNDS, NEARBY}
 use Rattle.sums.specs.Sums.{keptOf}
 use Rattle.sums.proofs.Laws.{sq-step, sum-next, sum-all}
 use Rattle.sums.proofs.added_up.Statement.{statement}
@@ -12,7 +12,7 @@ use Rattle.sums.proofs.added_up.Tie as tie
 
 abbrev Inv-loop : tie.InvT-loop
 Inv-loop terms cells point axis s₀ q₀ i₀ s q i =
-    (i ≤ ROUNDS) × (s ≡ ΣN i (keptOf terms cells point axis)) × (q ≡ ΣN i (λ (n : ℕ). keptOf terms cells point axis n * keptOf terms cells point axis n)) × (s ≤ 200000 * i) × (q ≤ 200000 * s)
+    (i ≤ ROUNDS) × (s ≡ ΣN i (keptOf terms cells point axis)) × (q ≡ ΣN i (λ (n : ℕ). keptOf terms cells point axis n * keptOf terms cells point axis n)) × (s ≤ 2 * NEARBY * i) × (q ≤ 2 * NEARBY * s)
 
 abbrev μ-loop : tie.MeasureT-loop
 μ-loop terms cells point axis s₀ q₀ i₀ s q i = ROUNDS - i

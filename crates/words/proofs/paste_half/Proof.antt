@@ -1,6 +1,6 @@
 use native.Mathlib.Omega.{arith}
 use lib.ListN.{length-set}
-use Rattle.words.proofs.Paste.{four-pasted}
+use Rattle.words.proofs.Words.{four-pasted}
 use borrow.Author.Needs.{needs}
 use Rattle.words.proofs.paste_half.Statement.{statement}
 use Rattle.words.proofs.paste_half.Tie as tie

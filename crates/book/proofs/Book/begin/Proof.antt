@@ -2,7 +2,8 @@ use mathlib.Core.Path.{_≡_, ap, _∙_}
 use lib.IntN.{ℤ}
 use mir.Syntax.{w64}
 use mir.ValLaws.{toZ-ofZ}
-use Rattle.image.specs.Lengths.{termWordsOr, termsGiven}
+use Rattle.paper.specs.Units.{termsGiven}
+use Rattle.image.specs.Lengths.{termWordsOr}
 use Rattle.book.proofs.Meaning.{Sized}
 use Rattle.book.proofs.Opened.{begin-given}
 use borrow.Author.Needs.{needs}

@@ -22,14 +22,14 @@ returns c =
 in-range-requires : tie.Need-in-range-requires
 in-range-requires c κs = search needs
 
-begun-requires : tie.Need-begun-requires
-begun-requires c κs = search needs
+filled-requires : tie.Need-filled-requires
+filled-requires c κs = search needs
 
 returns-2 : tie.Need-returns-2
 returns-2 c =
     let s = c .before .before .before .before .before .before .before .before in
     let l : length (s .args .t2) ≡ 12 = search needs in
-    begun-with (s .args .self) (sized s) (known (c .before .before .before .before .before .before .before .in-form .ensures) (c .before .before .before .before .before .before .if1 .taken)) (termsOf (s .args .t2)) (c .begun .result) (c .before .before .before .before .if2 .left) (known (c .before .before .in-range .ensures) (c .before .if3 .taken)) (c .begun .ensures ∙ blank-words (s .args .t2) l)
+    begun-with (s .args .self) (sized s) (known (c .before .before .before .before .before .before .before .in-form .ensures) (c .before .before .before .before .before .before .if1 .taken)) (termsOf (s .args .t2)) (c .filled .result) (c .before .before .before .before .if2 .left) (known (c .before .before .in-range .ensures) (c .before .if3 .taken)) (c .filled .ensures ∙ blank-words (s .args .t2) l)
 
 returns-3 : tie.Need-returns-3
 returns-3 c =
@@ -46,7 +46,7 @@ begin-words-spec =
     in-form-requires
     returns
     in-range-requires
-    begun-requires
+    filled-requires
     returns-2
     returns-3
     returns-4)

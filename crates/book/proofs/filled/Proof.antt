@@ -1,7 +1,7 @@
 use mathlib.Core.Path.{refl}
-use Rattle.filebook.specs.FileBook.{filledOf}
-use Rattle.filebook.proofs.filled.Statement.{statement}
-use Rattle.filebook.proofs.filled.Tie as tie
+use Rattle.book.specs.Steps.{filledOf}
+use Rattle.book.proofs.filled.Statement.{statement}
+use Rattle.book.proofs.filled.Tie as tie
 
 returns : tie.Need-returns
 unfolding filledOf
