@@ -14,6 +14,7 @@ use Rattle.paper.specs.Procedure.{BOOKS}
 use Rattle.paper.specs.Units.{Triple, oneTo, inRange, inSheet}
 use Rattle.paper.specs.Books as paper
 use Rattle.paper.specs.Calls.{Act, begin, strike, enter, correct, withdraw, takeBack, on, effect, affected}
+use Rattle.paper.specs.Refusals.{REGISTER, PLACE, TERMS, CLOSED}
 use Rattle.paper.specs.TurnedAway.{lowest, rules, refusal}
 use Rattle.paper.specs.Answers.{unless, says, after}
 use Rattle.paper.specs.Alone.{refusedAlone, next}
@@ -35,22 +36,22 @@ use Rattle.lent.proofs.Image.{form-length, image-set, state-in, state-out, form
 use Rattle.shelf.proofs.Ways.{Found, found, elsewhere, Way, within, without, found-way, found-seen, found-meant, away-among}
 
 -- outside the sixteen it is 2 (PLACE), but for 1 (REGISTER)
-away-outside : (k n : ℕ) → oneTo BOOKS k ≡ false → (n ≡ 1 → ⊥) → turnedAway k n ≡ 2
+away-outside : (k n : ℕ) → oneTo BOOKS k ≡ false → (n ≡ REGISTER → ⊥) → turnedAway k n ≡ PLACE
 unfolding turnedAway
-away-outside k n e h = rw (ne-eqb n 1 h, e)
+away-outside k n e h = rw (ne-eqb n REGISTER h, e)
 
-not-one : (i : Bool) (m n : ℕ) → m ≢ 1 → n ≢ 1 → cond (not i) m n ≢ 1
+not-one : (i : Bool) (m n : ℕ) → m ≢ REGISTER → n ≢ REGISTER → cond (not i) m n ≢ REGISTER
 not-one true m n u v = v
 not-one false m n u v = u
 
 -- no act on a closed book meets 1
-closed-meets : (a : Act) → refusedAlone a (some none) ≢ 1
+closed-meets : (a : Act) → refusedAlone a (some none) ≢ REGISTER
 unfolding refusedAlone rules lowest
-closed-meets (begin t) = not-one (inRange t) 4 0 (λ e. omega (arith, e)) (λ e. omega (arith, e))
+closed-meets (begin t) = not-one (inRange t) TERMS 0 (λ e. omega (arith, e)) (λ e. omega (arith, e))
 closed-meets strike = λ e. omega (arith, e)
-closed-meets (enter p v) = not-one (inSheet p) 2 5 (λ e. omega (arith, e)) (λ e. omega (arith, e))
-closed-meets (correct p v) = not-one (inSheet p) 2 5 (λ e. omega (arith, e)) (λ e. omega (arith, e))
-closed-meets (withdraw p) = not-one (inSheet p) 2 5 (λ e. omega (arith, e)) (λ e. omega (arith, e))
+closed-meets (enter p v) = not-one (inSheet p) PLACE CLOSED (λ e. omega (arith, e)) (λ e. omega (arith, e))
+closed-meets (correct p v) = not-one (inSheet p) PLACE CLOSED (λ e. omega (arith, e)) (λ e. omega (arith, e))
+closed-meets (withdraw p) = not-one (inSheet p) PLACE CLOSED (λ e. omega (arith, e)) (λ e. omega (arith, e))
 closed-meets takeBack = λ e. omega (arith, e)
 
 module _ (bs : List ℕ) (k : ℕ) (a : Act) (y : Bytes bs) where
@@ -106,10 +107,10 @@ module _ (bs : List ℕ) (k : ℕ) (a : Act) (y : Bytes bs) where
           let d = act-done b f s bs′ es (eb ∙ ap (λ (n : ℕ). unless n (placedAt bs k (s .book)) bs) z) in
           (z ∙ d .0, d .1)
       go (within u (elsewhere v w)) =
-          let n : turnedAway k (s .refusal) ≡ 2 = away-outside k (s .refusal) v (λ m. closed-meets a (sym (ap (λ (q : Step). q .refusal) es ∙ rw (w, seen-image none refl)) ∙ m)) in
+          let n : turnedAway k (s .refusal) ≡ PLACE = away-outside k (s .refusal) v (λ m. closed-meets a (sym (ap (λ (q : Step). q .refusal) es ∙ rw (w, seen-image none refl)) ∙ m)) in
           (n ∙ rw (state-in bs u, v), eb ∙ rw n (rw (state-in bs u, v) (sym (form-image-is bs y u))))
       go (without u v) =
-          let n : turnedAway k (s .refusal) ≡ 1 = rw (es, v) in
+          let n : turnedAway k (s .refusal) ≡ REGISTER = rw (es, v) in
           (n ∙ rw (state-out bs u), eb ∙ rw n (rw (state-out bs u)))
 
 -- an act with a reading, whose numbers are those given
@@ -124,4 +125,4 @@ accepted-length bs k a b s e es z = go (found-way bs k b e)
   where
     go : Way bs k b → length bs ≡ LENGTH
     go (within u w) = form-length bs u
-    go (without u v) = let n : s .refusal ≡ 1 = rw (es, v) in absurd (omega (arith, z, n))
+    go (without u v) = let n : s .refusal ≡ REGISTER = rw (es, v) in absurd (omega (arith, z, n))

@@ -9,6 +9,7 @@ use Rattle.paper.specs.Procedure.{BOOKS}
 use Rattle.paper.specs.Units.{oneTo, inSheet, Place}
 use Rattle.paper.specs.Books as paper
 use Rattle.paper.specs.Calls.{Question, ask, read, changes, residual, evaluate}
+use Rattle.paper.specs.Refusals.{REGISTER, PLACE, CLOSED}
 use Rattle.paper.specs.TurnedAway.{lowest, questioned, evaluating}
 use Rattle.paper.specs.Answers.{Answer, answered, says, given, beside, suspectIn}
 use Rattle.paper.specs.Alone.{askedAlone}
@@ -36,11 +37,11 @@ pub turned-among : (k : ℕ) (a : Answer) → oneTo BOOKS k ≡ true → turned 
 unfolding turned
 turned-among k a e = rw (away-among k (a .refused) e)
 
--- a question of one book: it makes no difference which, and outside the sixteen it is answered as of a closed one, but with 2
+-- a question of one book: it makes no difference which, and outside the sixteen it is answered as of a closed one, but with PLACE
 pub record OfOne (q : ℕ → Question) : Type 0 where
   pub alone : (k : ℕ) (s : ℕ → Option paper.Sight) → oneTo BOOKS k ≡ true → says (ask (q k)) s ≡ says (ask (q 1)) (λ i. s k)
   pub outside : (k : ℕ) (s : ℕ → Option paper.Sight) → oneTo BOOKS k ≡ false → turned k (says (ask (q 1)) (λ i. none)) ≡ says (ask (q k)) s
-  pub not-formed : (k : ℕ) → answered 1 (q 1) (λ i. none) ≡ answered 1 (q k) (λ i. none)
+  pub not-formed : (k : ℕ) → answered REGISTER (q 1) (λ i. none) ≡ answered REGISTER (q k) (λ i. none)
 
 -- what a question is answered, by what was found
 pub asked : (bs : List ℕ) (k : ℕ) (q : ℕ → Question) → OfOne q → (b : Book) → b ≡ foundOf bs k → turned k (askedAlone q (seen b)) ≡ called (ask (q k)) bs .answer
@@ -55,8 +56,8 @@ asked bs k q o b e = go (found-way bs k b e)
 
 -- ---- each question of one book
 
--- outside the sixteen a closed book is asked, and 2 (PLACE) comes before what that meets
-pub away : (k : ℕ) (q q′ : Question) (t s : ℕ → Option paper.Sight) (i : Bool) → oneTo BOOKS k ≡ false → beside q ≡ beside q′ → turned k (answered (cond i 2 5) q t) ≡ answered 2 q′ s
+-- outside the sixteen a closed book is asked, and PLACE comes before what that meets
+pub away : (k : ℕ) (q q′ : Question) (t s : ℕ → Option paper.Sight) (i : Bool) → oneTo BOOKS k ≡ false → beside q ≡ beside q′ → turned k (answered (cond i PLACE CLOSED) q t) ≡ answered PLACE q′ s
 unfolding turned turnedAway
 away k q q′ t s true e b = rw (e, b)
 away k q q′ t s false e b = rw (e, b)

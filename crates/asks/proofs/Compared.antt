@@ -9,6 +9,7 @@ use Rattle.paper.specs.Procedure.{BOOKS}
 use Rattle.paper.specs.Units.{oneTo}
 use Rattle.paper.specs.Books as paper
 use Rattle.paper.specs.Calls.{ask, compare}
+use Rattle.paper.specs.Refusals.{PLACE}
 use Rattle.paper.specs.TurnedAway.{lowest, questioned, isClosed, noBook}
 use Rattle.paper.specs.Answers.{answered, says, given, beside, suspectIn, nowhere}
 use Rattle.paper.specs.Alone.{comparedAlone}
@@ -30,11 +31,11 @@ module _ (bs : List ℕ) (j k axis : ℕ) where
   s = paper.sights (meantFrom BOOKS bs)
 
   one-closed : (i : ℕ) (o p : Option paper.Book) → oneTo BOOKS i ≡ false → isClosed (Option·map paper.sight o) || isClosed (Option·map paper.sight p) ≡ true
-      → turned i (comparedAlone axis (some o) (some p)) ≡ answered 2 (compare j k axis) s
+      → turned i (comparedAlone axis (some o) (some p)) ≡ answered PLACE (compare j k axis) s
   unfolding comparedAlone says lowest questioned beside
   one-closed i o p e c = rw c (away i (compare 1 2 axis) (compare j k axis) _ s (not (oneTo 2 axis)) e refl)
 
-  no-book : noBook j || noBook k ≡ true → answered 2 (compare j k axis) s ≡ says (ask (compare j k axis)) s
+  no-book : noBook j || noBook k ≡ true → answered PLACE (compare j k axis) s ≡ says (ask (compare j k axis)) s
   unfolding says lowest questioned
   no-book e = rw e
 
@@ -43,12 +44,12 @@ module _ (bs : List ℕ) (j k axis : ℕ) where
   unfolding comparedAlone says lowest questioned given beside suspectIn paper.sights
   both-in o p u v e f = rw (← u, ← v, e, f)
 
-  -- 2 of the first number stays, whatever the second
-  place-stays : turned k (answered 2 (compare j k axis) s) ≡ answered 2 (compare j k axis) s
+  -- PLACE of the first number stays, whatever the second
+  place-stays : turned k (answered PLACE (compare j k axis) s) ≡ answered PLACE (compare j k axis) s
   unfolding turned turnedAway
   place-stays = go (oneTo BOOKS k)
     where
-      go : (i : Bool) → record { refused = cond i 2 2; suspect = nowhere; value = beside (compare j k axis) } ≡ answered 2 (compare j k axis) s
+      go : (i : Bool) → record { refused = cond i PLACE PLACE; suspect = nowhere; value = beside (compare j k axis) } ≡ answered PLACE (compare j k axis) s
       go true = refl
       go false = refl
 

@@ -11,6 +11,7 @@ use Rattle.words.specs.Paste.{pasted}
 use Rattle.words.proofs.Blocks.{laid-append}
 use Rattle.words.proofs.Paste.{pasted-nil, pasted-then}
 use Rattle.paper.specs.Units.{Spot, Places}
+use Rattle.image.specs.Layout.{CELL-WORDS}
 use Rattle.image.specs.Places.{spotWords, cellsOf}
 use Rattle.image.proofs.Places.{length-cells, length-spot}
 use Rattle.decimals.specs.Reader.{got, bad, ahead}
@@ -126,7 +127,7 @@ module _ (s : List ℕ) (at a b c : ℕ) where
       no-third e = then-got _ (f .reads) ∙ (then-got _ (g .reads) ∙ then-bad _ e)
 
 module _ (s : List ℕ) (at a b c : ℕ) (cells : List ℕ) where
-  pub bodies-all : {c1 c2 c3 : List ℕ} {x y z i j n : ℕ} → length cells ≡ 90
+  pub bodies-all : {c1 c2 c3 : List ℕ} {x y z i j n : ℕ} → length cells ≡ CELL-WORDS
       → Got (Laid cellsOf cells 0 c1) s at x i (series a (drop at s))
       → Got (Laid cellsOf c1 30 c2) s i y j (series b (drop i s))
       → Got (Laid cellsOf c2 60 c3) s j z n (series c (drop j s))

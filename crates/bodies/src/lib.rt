@@ -2,6 +2,7 @@
 ghost use mathlib.Core.Path.{_≡_};
 ghost use Prim.Native.Nat.{_+_, _≤_};
 ghost use lib.ListN.{length, drop};
+ghost use Rattle.image.specs.Layout.{CELL-WORDS};
 ghost use Rattle.image.specs.Places.{cellsOf};
 ghost use Rattle.decimals.specs.Given.{Gives, Laid};
 ghost use Rattle.fieldfile.specs.Reader.{series, bodies};
@@ -32,7 +33,7 @@ fn series_at(s: &[u8], at: usize, count: u64, cells: &mut [u64], base: usize) ->
 
 // The bodies of the three series.
 pub fn bodies_at(s: &[u8], at: usize, a: u64, b: u64, c: u64, cells: &mut [u64]) -> Read
-    requires { ⌜ (at ≤ length (now s)) × (length (now cells) ≡ 90) ⌝ }
+    requires { ⌜ (at ≤ length (now s)) × (length (now cells) ≡ CELL-WORDS) ⌝ }
     ensures { λ r. ⌜ Gives (Laid cellsOf (now (cells .entry)) 0 (now (cells .exit))) (now (s .entry)) at r (bodies a b c (drop at (now (s .entry)))) ⌝ }
 {
     let Read::At(_, i) = series_at(s, at, a, cells, 0) else {

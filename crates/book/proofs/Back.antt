@@ -8,9 +8,10 @@ use mathlib.Core.List.{List, _∷_}
 use lib.ListN.{length, getD, drop, length-drop}
 use lib.Seq.{drop-drop}
 use borrow.Author.Tests.{ne-eqb}
-use Rattle.paper.specs.Procedure.{PLACES}
+use Rattle.paper.specs.Procedure.{PLACES, KEPT}
 use Rattle.paper.specs.Books as paper
 use Rattle.paper.specs.Calls.{takeBack, undoes, effect, affected}
+use Rattle.paper.specs.Refusals.{CLOSED, NOTHING}
 use Rattle.paper.specs.TurnedAway.{nothingKept, lowest, rules}
 use Rattle.paper.proofs.Form.{parts, AllFit}
 use Rattle.image.specs.Places.{spotAt, placesOf}
@@ -26,7 +27,7 @@ use Rattle.book.proofs.Meaning.{Sized, book-parts, Sound, form-sound, m
 use Rattle.book.proofs.Steps.{step-refused, step-done, cell-words, kept-count}
 
 -- of a closed book there is nothing to take back
-pub back-closed : (b : Book) → Sized b → bookForm b ≡ true → b .opened ≡ 0 → step 5 b ≡ stepOf takeBack b
+pub back-closed : (b : Book) → Sized b → bookForm b ≡ true → b .opened ≡ 0 → step CLOSED b ≡ stepOf takeBack b
 unfolding rules lowest
 back-closed b s e z = step-refused b takeBack 4 s e (rw (meant-closed b z))
 
@@ -48,15 +49,15 @@ module _ (b : Book) (s : Sized b) (e : bookForm b ≡ true) (f : b .opened ≡ 0
   unfolding last
   back-small z = subst (λ (l : List paper.Change). AllFit (openOf b .terms) (openOf b .places) l) (kept-is z) (parts (openOf b) (sound-b .formed) .fit) .0 .reaches
 
-  pub step-nothing : b .kept ≡ 0 → step 9 b ≡ stepOf takeBack b
+  pub step-nothing : b .kept ≡ 0 → step NOTHING b ≡ stepOf takeBack b
   unfolding lowest rules nothingKept paper.sight
   step-nothing z = step-refused b takeBack 8 s e (rw (meant-open b f, kept-count b s sound-b, z))
 
-  rest-words : 0 < b .kept → changesOf 31 older ≡ drop 4 (b .changes)
+  rest-words : 0 < b .kept → changesOf (KEPT - 1) older ≡ drop 4 (b .changes)
   unfolding older
   rest-words z =
-      let l : length (drop 4 (b .changes)) ≡ 4 * 31 = rw length-drop (omega (arith, s .changes-128)) in
-      changes-entries 31 (b .kept - 1) (drop 4 (b .changes)) l (omega (arith, sound-b .few))
+      let l : length (drop 4 (b .changes)) ≡ 4 * (KEPT - 1) = rw length-drop (omega (arith, s .changes)) in
+      changes-entries (KEPT - 1) (b .kept - 1) (drop 4 (b .changes)) l (omega (arith, sound-b .few))
       (rw (drop-drop ((b .kept - 1) * 4) 4 (b .changes)) (subst (λ (n : ℕ). zeros (drop n (b .changes)) ≡ true) (swap z) (sound-b .rest)))
     where
       swap : 0 < b .kept → b .kept * 4 ≡ 4 + (b .kept - 1) * 4
@@ -71,10 +72,10 @@ module _ (b : Book) (s : Sized b) (e : bookForm b ≡ true) (f : b .opened ≡ 0
   undone-is z =
       rw (meant-open b f, kept-is z)
       (book-parts _ _ _ _ _ _ _ _ _ _ (sound-b .opened)
-      (sym (words-terms (b .terms) (s .terms-12)))
+      (sym (words-terms (b .terms) (s .terms)))
       (sym (cells-set (placesOf (b .cells)) (getD (b .changes) 0 0) (spotAt (b .changes) 1) (rw (length-places (b .cells)) (back-small z)) ∙ rw (cell-words b s sound-b, words-spot (getD (b .changes) 1 0) (getD (b .changes) 2 0) (getD (b .changes) 3 0))))
       (sym older-length)
-      (rw (← rest-words z) (changes-pop 31 older (omega (arith, older-length, sound-b .few)))))
+      (rw (← rest-words z) (changes-pop (KEPT - 1) older (omega (arith, older-length, sound-b .few)))))
 
   pub step-undone : 0 < b .kept → step 0 (undoneOf b) ≡ stepOf takeBack b
   unfolding lowest rules nothingKept paper.sight effect

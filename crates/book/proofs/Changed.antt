@@ -1,6 +1,6 @@
 -- A change: the words that it leaves, and the calls that make one.
 -- Assumes nothing.
-use Prim.Native.Nat.{ℕ, suc, _+_, _*_, _≤_, min}
+use Prim.Native.Nat.{ℕ, suc, _+_, _-_, _*_, _≤_, min}
 use native.Mathlib.Omega.{arith}
 use mathlib.Core.Path.{_≡_, refl, sym, ap, _∙_}
 use mathlib.Core.Bool.{Bool, true, false, cond, not}
@@ -14,6 +14,7 @@ use Rattle.paper.specs.Procedure.{KEPT}
 use Rattle.paper.specs.Units.{Triple, Place, inRange, number, pointOf, near, Spot}
 use Rattle.paper.specs.Books as paper
 use Rattle.paper.specs.Calls.{Act, enter, correct, withdraw, makes, effect, affected}
+use Rattle.paper.specs.Refusals.{FILLED, EMPTY, FAR}
 use Rattle.paper.specs.TurnedAway.{Rule, _when_, empty, far, lowest, rules}
 use Rattle.paper.proofs.Tests.{told-point}
 use Rattle.words.specs.Paste.{pasted}
@@ -47,10 +48,10 @@ module _ (b : Book) (s : Sized b) (p : Place) (q : ℕ) (o : On b p q) where
 
   -- ---- the change
 
-  more-is : (n : ℕ) → n ≤ KEPT → suc (min 31 n) ≡ more n
+  more-is : (n : ℕ) → n ≤ KEPT → suc (min (KEPT - 1) n) ≡ more n
   more-is n h = go (ltb n KEPT) refl
     where
-      go : (t : Bool) → ltb n KEPT ≡ t → suc (min 31 n) ≡ cond t (n + 1) KEPT
+      go : (t : Bool) → ltb n KEPT ≡ t → suc (min (KEPT - 1) n) ≡ cond t (n + 1) KEPT
       go true e = omega (arith, ltb-true n KEPT e)
       go false e = omega (arith, ltb-false n KEPT e)
 
@@ -63,14 +64,14 @@ module _ (b : Book) (s : Sized b) (p : Place) (q : ℕ) (o : On b p q) where
   change-is v =
       rw (meant-open b (o .opened), ← o .at, place-at (b .cells) q (place-small b s p q o))
       (book-parts _ _ _ _ _ _ _ _ _ _ (sound .opened)
-      (sym (words-terms (b .terms) (s .terms-12)))
+      (sym (words-terms (b .terms) (s .terms)))
       (sym (cells-set (placesOf (b .cells)) q v (rw (length-places (b .cells)) (place-small b s p q o)) ∙ ap (λ (l : List ℕ). pasted l (q * 3) (spotWords v)) (cell-words b s sound)))
-      (sym (ap suc (length-take 31 (entries (b .kept) (b .changes)) ∙ ap (min 31) (length-entries (b .kept) (b .changes))) ∙ more-is (b .kept) (sound .few)))
-      (sym (changes-push 31 (change q (spotAt (b .cells) (q * 3))) (entries (b .kept) (b .changes)) ∙ rw (words-before, kept-words b s sound))))
+      (sym (ap suc (length-take (KEPT - 1) (entries (b .kept) (b .changes)) ∙ ap (min (KEPT - 1)) (length-entries (b .kept) (b .changes))) ∙ more-is (b .kept) (sound .few)))
+      (sym (changes-push (KEPT - 1) (change q (spotAt (b .cells) (q * 3))) (entries (b .kept) (b .changes)) ∙ rw (words-before, kept-words b s sound))))
 
-  -- ---- an act that puts a reading where it may stand: 8, or the change
+  -- ---- an act that puts a reading where it may stand: FAR, or the change
   placed-is : (a : Act) (x y h : ℤ) → effect a ≡ makes (change (number p) (some (record { x = x; y = y; h = h })))
-      → lowest (rules a (sightO b)) ≡ lowest (8 when far p (record { x = x; y = y; h = h }) (sightO b) ∷ [])
+      → lowest (rules a (sightO b)) ≡ lowest (FAR when far p (record { x = x; y = y; h = h }) (sightO b) ∷ [])
       → putOf b q (wordOr x) (wordOr y) (wordOr h) ≡ stepOf a b
   unfolding lowest
   placed-is a x y h ef r = go (near (termsOf (b .terms)) (pointOf q) (triple (wordOr x) (wordOr y) (wordOr h))) refl
@@ -82,7 +83,7 @@ module _ (b : Book) (s : Sized b) (p : Place) (q : ℕ) (o : On b p q) where
       in-range = ranged b s sound
 
       go : (n : Bool) → near (termsOf (b .terms)) (pointOf q) (triple (wordOr x) (wordOr y) (wordOr h)) ≡ n
-          → cond n (step 0 (changedOf b q (wordOr x ∷ wordOr y ∷ wordOr h ∷ []))) (step 8 b) ≡ stepOf a b
+          → cond n (step 0 (changedOf b q (wordOr x ∷ wordOr y ∷ wordOr h ∷ []))) (step FAR b) ≡ stepOf a b
       go false e = step-refused b a 7 s (o .form) (r ∙ rw (far-is x y h, e))
       go true e =
           let close : near (termsOf (b .terms)) (pointOf q) v ≡ true = sym (near-words (termsOf (b .terms)) (pointOf q) x y h in-range) ∙ e in
@@ -101,7 +102,7 @@ module _ (b : Book) (a : Aim) where
     unfolding placedOf
     placed-near b′ t u = rw (← ex, ← ey, ← eh, eq-eqb (a .refusal) 0 z, ← e, t, u)
 
-    pub placed-far : r ≡ false → step 8 b ≡ placedOf b a x′ y′ h′
+    pub placed-far : r ≡ false → step FAR b ≡ placedOf b a x′ y′ h′
     unfolding placedOf
     placed-far t = rw (← ex, ← ey, ← eh, eq-eqb (a .refusal) 0 z, ← e, t)
 
@@ -111,7 +112,7 @@ module _ (b : Book) (p : Place) (e f : ℕ) (s : Sized b) (a : Act) (m : ℕ) (t
   -- a reading put where it goes, whose three words are those of x, y and h
   placed-step : (c : Aim) (x y h x′ y′ h′ : ℤ) → c ≡ soughtOf b p e f → x′ ≡ x → y′ ≡ y → h′ ≡ h
       → effect a ≡ makes (change (number p) (some (record { x = x; y = y; h = h })))
-      → rest ≡ 8 when far p (record { x = x; y = y; h = h }) (sightO b) ∷ []
+      → rest ≡ FAR when far p (record { x = x; y = y; h = h }) (sightO b) ∷ []
       → (r : Step) → r ≡ placedOf b c (wordOr x′) (wordOr y′) (wordOr h′)
       → r ≡ stepOf a b
   unfolding placedOf
@@ -126,29 +127,29 @@ module _ (b : Book) (p : Place) (e f : ℕ) (s : Sized b) (a : Act) (m : ℕ) (t
 -- ---- enter, correct, withdraw
 
 module _ (b : Book) (s : Sized b) (p : Place) where
-  pub entered : (a : Aim) (x y h x′ y′ h′ : ℤ) → a ≡ soughtOf b p 0 6 → x′ ≡ x → y′ ≡ y → h′ ≡ h
+  pub entered : (a : Aim) (x y h x′ y′ h′ : ℤ) → a ≡ soughtOf b p 0 FILLED → x′ ≡ x → y′ ≡ y → h′ ≡ h
       → (r : Step) → r ≡ placedOf b a (wordOr x′) (wordOr y′) (wordOr h′) → r ≡ stepOf (enter p (record { x = x; y = y; h = h })) b
   unfolding rules effect
   entered a x y h x′ y′ h′ u ex ey eh =
-      placed-step b p 0 6 s (enter p (record { x = x; y = y; h = h })) 5 (not (empty p (sightO b))) _ refl (turned (empty p (sightO b))) a x y h x′ y′ h′ u ex ey eh refl refl
+      placed-step b p 0 FILLED s (enter p (record { x = x; y = y; h = h })) 5 (not (empty p (sightO b))) _ refl (turned (empty p (sightO b))) a x y h x′ y′ h′ u ex ey eh refl refl
     where
-      turned : (i : Bool) → _≡_ {A = ℕ} (cond i 0 6) (cond (not i) 6 0)
+      turned : (i : Bool) → _≡_ {A = ℕ} (cond i 0 FILLED) (cond (not i) FILLED 0)
       turned true = refl
       turned false = refl
 
-  pub corrected : (a : Aim) (x y h x′ y′ h′ : ℤ) → a ≡ soughtOf b p 7 0 → x′ ≡ x → y′ ≡ y → h′ ≡ h
+  pub corrected : (a : Aim) (x y h x′ y′ h′ : ℤ) → a ≡ soughtOf b p EMPTY 0 → x′ ≡ x → y′ ≡ y → h′ ≡ h
       → (r : Step) → r ≡ placedOf b a (wordOr x′) (wordOr y′) (wordOr h′) → r ≡ stepOf (correct p (record { x = x; y = y; h = h })) b
   unfolding rules effect
   corrected a x y h x′ y′ h′ u ex ey eh =
-      placed-step b p 7 0 s (correct p (record { x = x; y = y; h = h })) 6 (empty p (sightO b)) _ refl refl a x y h x′ y′ h′ u ex ey eh refl refl
+      placed-step b p EMPTY 0 s (correct p (record { x = x; y = y; h = h })) 6 (empty p (sightO b)) _ refl refl a x y h x′ y′ h′ u ex ey eh refl refl
 
-  pub withdraw-refused : (a : Aim) → a ≡ soughtOf b p 7 0 → (a .refusal ≡ 0 → ⊥) → step (a .refusal) b ≡ stepOf (withdraw p) b
+  pub withdraw-refused : (a : Aim) → a ≡ soughtOf b p EMPTY 0 → (a .refusal ≡ 0 → ⊥) → step (a .refusal) b ≡ stepOf (withdraw p) b
   unfolding rules
-  withdraw-refused = sought-refused b p 7 0 s (withdraw p) 6 (empty p (sightO b)) [] refl refl
+  withdraw-refused = sought-refused b p EMPTY 0 s (withdraw p) 6 (empty p (sightO b)) [] refl refl
 
-  pub withdrawn : (a : Aim) → a ≡ soughtOf b p 7 0 → a .refusal ≡ 0 → step 0 (changedOf b (a .place) (0 ∷ 0 ∷ 0 ∷ [])) ≡ stepOf (withdraw p) b
+  pub withdrawn : (a : Aim) → a ≡ soughtOf b p EMPTY 0 → a .refusal ≡ 0 → step 0 (changedOf b (a .place) (0 ∷ 0 ∷ 0 ∷ [])) ≡ stepOf (withdraw p) b
   unfolding rules effect lowest spotWords
   withdrawn a u z =
-      let o = sought-on b p 7 0 a u z in
+      let o = sought-on b p EMPTY 0 a u z in
       step-done b (withdraw p) (changedOf b (a .place) (0 ∷ 0 ∷ 0 ∷ [])) (o .0 .form)
-      (sought-rest b p 7 0 s (withdraw p) 6 (empty p (sightO b)) [] refl refl (a .place) (o .0) (o .1)) (change-is b s p (a .place) (o .0) none)
+      (sought-rest b p EMPTY 0 s (withdraw p) 6 (empty p (sightO b)) [] refl refl (a .place) (o .0) (o .1)) (change-is b s p (a .place) (o .0) none)

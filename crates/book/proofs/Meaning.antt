@@ -15,6 +15,7 @@ use Rattle.paper.specs.Books as paper
 use Rattle.paper.specs.Form.{formed, formedO}
 use Rattle.paper.proofs.Tests.{and-left, and-right}
 use Rattle.paper.proofs.Form.{Formed, parts}
+use Rattle.image.specs.Layout.{TERM-WORDS, CELL-WORDS, CHANGE-WORDS}
 use Rattle.image.specs.Lengths.{word}
 use Rattle.image.specs.Places.{placesOf, cellsOf}
 use Rattle.image.specs.Changes.{entries, changesOf, zeros}
@@ -22,15 +23,15 @@ use Rattle.image.proofs.Lengths.{length-terms, words-terms, terms-words}
 use Rattle.image.proofs.Places.{length-cells, cells-places, places-cells}
 use Rattle.image.proofs.Changes.{length-changes, length-entries, changes-entries, entries-changes, zeros-all, zeros-replicate, zeros-rest}
 use Rattle.image.proofs.Bounds.{terms-short, places-short, kept-short}
-use Rattle.form.specs.Whole.{blank, sound, wordsForm}
+use Rattle.form.specs.Whole.{bare, sound, wordsForm}
 use Rattle.book.specs.declared.Book.{Book}
 use Rattle.book.specs.Meaning.{bookOf, openOf, meant, bookForm, seen}
 
 -- the arrays of a Book have these lengths
 pub record Sized (b : Book) : Type 0 where
-  pub terms-12 : length (b .terms) ≡ 12
-  pub cells-90 : length (b .cells) ≡ 90
-  pub changes-128 : length (b .changes) ≡ 128
+  pub terms : length (b .terms) ≡ TERM-WORDS
+  pub cells : length (b .cells) ≡ CELL-WORDS
+  pub changes : length (b .changes) ≡ CHANGE-WORDS
 
 pub book-parts : (o o′ : ℕ) (t t′ ce ce′ : List ℕ) (k k′ : ℕ) (ch ch′ : List ℕ) → o ≡ o′ → t ≡ t′ → ce ≡ ce′ → k ≡ k′ → ch ≡ ch′
     → _≡_ {A = Book} (record { opened = o; terms = t; cells = ce; kept = k; changes = ch }) (record { opened = o′; terms = t′; cells = ce′; kept = k′; changes = ch′ })
@@ -74,11 +75,11 @@ form-sound b e f =
 open-book : (b : Book) → Sized b → Sound b → bookOf (some (openOf b)) ≡ b
 unfolding bookOf openOf
 open-book b s o =
-    book-parts _ _ _ _ _ _ _ _ _ _ (sym (o .opened)) (words-terms (b .terms) (s .terms-12)) (cells-places (b .cells) (s .cells-90)) (length-entries (b .kept) (b .changes))
-    (changes-entries KEPT (b .kept) (b .changes) (s .changes-128) (o .few) (o .rest))
+    book-parts _ _ _ _ _ _ _ _ _ _ (sym (o .opened)) (words-terms (b .terms) (s .terms)) (cells-places (b .cells) (s .cells)) (length-entries (b .kept) (b .changes))
+    (changes-entries KEPT (b .kept) (b .changes) (s .changes) (o .few) (o .rest))
 
 closed-book : (b : Book) → Sized b → bookForm b ≡ true → b .opened ≡ 0 → bookOf none ≡ b
-unfolding bookOf bookForm wordsForm blank
+unfolding bookOf bookForm wordsForm bare
 closed-book b s e z =
     let k = eqb (b .kept) 0 in
     let t = zeros (b .terms) in
@@ -87,9 +88,9 @@ closed-book b s e z =
     let e₀ : k && (t && (c && h)) ≡ true = rw (eq-eqb (b .opened) 0 z) at e in
     let e₁ : t && (c && h) ≡ true = and-right k (t && (c && h)) e₀ in
     let e₂ : c && h ≡ true = and-right t (c && h) e₁ in
-    let z₁ : b .terms ≡ replicate 12 0 = subst (λ (n : ℕ). b .terms ≡ replicate n 0) (s .terms-12) (zeros-all (b .terms) (and-left t (c && h) e₁)) in
-    let z₂ : b .cells ≡ replicate 90 0 = subst (λ (n : ℕ). b .cells ≡ replicate n 0) (s .cells-90) (zeros-all (b .cells) (and-left c h e₂)) in
-    let z₃ : b .changes ≡ replicate 128 0 = subst (λ (n : ℕ). b .changes ≡ replicate n 0) (s .changes-128) (zeros-all (b .changes) (and-right c h e₂)) in
+    let z₁ : b .terms ≡ replicate TERM-WORDS 0 = subst (λ (n : ℕ). b .terms ≡ replicate n 0) (s .terms) (zeros-all (b .terms) (and-left t (c && h) e₁)) in
+    let z₂ : b .cells ≡ replicate CELL-WORDS 0 = subst (λ (n : ℕ). b .cells ≡ replicate n 0) (s .cells) (zeros-all (b .cells) (and-left c h e₂)) in
+    let z₃ : b .changes ≡ replicate CHANGE-WORDS 0 = subst (λ (n : ℕ). b .changes ≡ replicate n 0) (s .changes) (zeros-all (b .changes) (and-right c h e₂)) in
     book-parts _ _ _ _ _ _ _ _ _ _ (sym z) (sym z₁) (sym z₂) (sym (eqb-true (b .kept) 0 (and-left k (t && (c && h)) e₀))) (sym z₃)
 
 -- LAW: words in form are those of the book that they mean
@@ -131,8 +132,8 @@ meant-image (some a) e = ap some (open-back a (parts a e))
 
 -- LAW: and they are in form
 pub form-image : (o : Option paper.Book) → formedO o ≡ true → bookForm (bookOf o) ≡ true
-unfolding bookForm wordsForm bookOf blank sound openOf
-form-image none e = rw (zeros-replicate 12, zeros-replicate 90, zeros-replicate 128)
+unfolding bookForm wordsForm bookOf bare sound openOf
+form-image none e = rw (zeros-replicate TERM-WORDS, zeros-replicate CELL-WORDS, zeros-replicate CHANGE-WORDS)
 form-image (some a) e =
     let g = parts a e in
     let r : zeros (drop (length (a .kept) * 4) (changesOf KEPT (a .kept))) ≡ true = zeros-rest KEPT (a .kept) (g .few) in
@@ -141,12 +142,12 @@ form-image (some a) e =
 
 pub sized-image : (o : Option paper.Book) → formedO o ≡ true → Sized (bookOf o)
 unfolding bookOf
-sized-image none e = record { terms-12 = length-replicate {A = ℕ} 12 0; cells-90 = length-replicate {A = ℕ} 90 0; changes-128 = length-replicate {A = ℕ} 128 0 }
+sized-image none e = record { terms = length-replicate {A = ℕ} TERM-WORDS 0; cells = length-replicate {A = ℕ} CELL-WORDS 0; changes = length-replicate {A = ℕ} CHANGE-WORDS 0 }
 sized-image (some a) e =
     record {
-      terms-12 = length-map (termList (a .terms)) word ∙ length-terms (a .terms);
-      cells-90 = length-cells (a .places) ∙ ap (λ (n : ℕ). 3 * n) (parts a e .thirty);
-      changes-128 = length-changes KEPT (a .kept);
+      terms = length-map (termList (a .terms)) word ∙ length-terms (a .terms);
+      cells = length-cells (a .places) ∙ ap (λ (n : ℕ). 3 * n) (parts a e .thirty);
+      changes = length-changes KEPT (a .kept);
     }
 
 -- ---- what words in form stand for

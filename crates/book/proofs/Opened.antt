@@ -12,7 +12,9 @@ use Rattle.paper.specs.Procedure.{PLACES, KEPT}
 use Rattle.paper.specs.Units.{Terms, inRange}
 use Rattle.paper.specs.Books as paper
 use Rattle.paper.specs.Calls.{begin, strike, effect, affected}
+use Rattle.paper.specs.Refusals.{OPEN, TERMS, CLOSED}
 use Rattle.paper.specs.TurnedAway.{lowest, rules}
+use Rattle.image.specs.Layout.{TERM-WORDS, CELL-WORDS}
 use Rattle.image.specs.Lengths.{termsOf, termWordsOr}
 use Rattle.image.proofs.Lengths.{words-terms, terms-words-or}
 use Rattle.image.proofs.Places.{none-cells}
@@ -26,7 +28,7 @@ use Rattle.book.proofs.Meaning.{Sized, meant-closed, meant-open}
 use Rattle.book.proofs.Steps.{step-unformed, step-refused, step-done}
 
 module _ (b : Book) (s : Sized b) (e : bookForm b ≡ true) where
-  pub strike-closed : b .opened ≡ 0 → step 5 b ≡ stepOf strike b
+  pub strike-closed : b .opened ≡ 0 → step CLOSED b ≡ stepOf strike b
   unfolding rules lowest
   strike-closed z = step-refused b strike 4 s e (rw (meant-closed b z))
 
@@ -35,11 +37,11 @@ module _ (b : Book) (s : Sized b) (e : bookForm b ≡ true) where
   struck b′ f w = step-done b strike b′ e (rw (meant-open b f)) w
 
   module _ (t : Terms) where
-    pub begin-open : (b .opened ≡ 0 → ⊥) → step 3 b ≡ stepOf (begin t) b
+    pub begin-open : (b .opened ≡ 0 → ⊥) → step OPEN b ≡ stepOf (begin t) b
     unfolding rules lowest
     begin-open f = step-refused b (begin t) 2 s e (rw (meant-open b f))
 
-    pub begin-range : b .opened ≡ 0 → inRange t ≡ false → step 4 b ≡ stepOf (begin t) b
+    pub begin-range : b .opened ≡ 0 → inRange t ≡ false → step TERMS b ≡ stepOf (begin t) b
     unfolding rules lowest
     begin-range z r = step-refused b (begin t) 3 s e (rw (meant-closed b z, r))
 
@@ -65,6 +67,6 @@ begin-given b t s w ew r er = er ∙ ap (λ (l : List ℕ). stepOf (begin (terms
         sym (begin-open b s e u o) ∙ begin-open b s e t o
 
 -- the words of a blank book
-pub blank-words : (t : List ℕ) → length t ≡ 12 → filledOf t (replicate 90 0) ≡ bookOf (some (paper.blank (termsOf t)))
+pub blank-words : (t : List ℕ) → length t ≡ TERM-WORDS → filledOf t (replicate CELL-WORDS 0) ≡ bookOf (some (paper.blank (termsOf t)))
 unfolding filledOf bookOf paper.blank paper.nothing
 blank-words t n = rw (words-terms t n, none-cells PLACES, none-kept KEPT)

@@ -13,6 +13,7 @@ use Rattle.paper.specs.Procedure.{PLACES}
 use Rattle.paper.specs.Units.{Place, inSheet, number, isEmpty}
 use Rattle.paper.specs.Books as paper
 use Rattle.paper.specs.Calls.{Act}
+use Rattle.paper.specs.Refusals.{REGISTER, PLACE, CLOSED}
 use Rattle.paper.specs.TurnedAway.{Rule, _when_, isClosed, empty, lowest, rules}
 use Rattle.paper.proofs.Tests.{below}
 use Rattle.image.specs.Places.{spotAt}
@@ -35,7 +36,7 @@ pub record On (b : Book) (p : Place) (q : ℕ) : Type 0 where
 
 -- rules that begin with PLACE and CLOSED
 abbrev pub placed : Book → Place → List Rule → List Rule
-placed b p rest = 2 when not (inSheet p) ∷ 5 when isClosed (sightO b) ∷ rest
+placed b p rest = PLACE when not (inSheet p) ∷ CLOSED when isClosed (sightO b) ∷ rest
 
 module _ (b : Book) (p : Place) where
   pub aim-on : (q : ℕ) → aimOf b p .refusal ≡ 0 → q ≡ aimOf b p .place → On b p q
@@ -43,8 +44,8 @@ module _ (b : Book) (p : Place) where
   aim-on q e f = go (bookForm b) (inSheet p) (eqb (b .opened) 0) refl refl refl e f
     where
       go : (i j k : Bool) → bookForm b ≡ i → inSheet p ≡ j → eqb (b .opened) 0 ≡ k
-          → cond i (cond j (cond k (aim 5 0) (aim 0 (number p))) (aim 2 0)) (aim 1 0) .refusal ≡ 0
-          → q ≡ cond i (cond j (cond k (aim 5 0) (aim 0 (number p))) (aim 2 0)) (aim 1 0) .place
+          → cond i (cond j (cond k (aim CLOSED 0) (aim 0 (number p))) (aim PLACE 0)) (aim REGISTER 0) .refusal ≡ 0
+          → q ≡ cond i (cond j (cond k (aim CLOSED 0) (aim 0 (number p))) (aim PLACE 0)) (aim REGISTER 0) .place
           → On b p q
       go true true false u v w e f = record { form = u; in-sheet = v; opened = eqb-false (b .opened) 0 w; at = f }
       go true true true u v w e f = absurd (omega arith)
@@ -56,7 +57,7 @@ module _ (b : Book) (p : Place) where
   aim-refused a rest n s r e f = go (bookForm b) (inSheet p) (eqb (b .opened) 0) refl refl refl e
     where
       go : (i j k : Bool) → bookForm b ≡ i → inSheet p ≡ j → eqb (b .opened) 0 ≡ k
-          → n ≡ cond i (cond j (cond k (aim 5 0) (aim 0 (number p))) (aim 2 0)) (aim 1 0) .refusal
+          → n ≡ cond i (cond j (cond k (aim CLOSED 0) (aim 0 (number p))) (aim PLACE 0)) (aim REGISTER 0) .refusal
           → step n b ≡ stepOf a b
       go false j k u v w e = rw e (step-unformed b a u)
       go true false k u v w e = rw e (step-refused b a 1 s u (rw (r, v)))

@@ -9,6 +9,7 @@ use Rattle.paper.specs.Procedure.{KEPT}
 use Rattle.paper.specs.Units.{inRange}
 use Rattle.paper.specs.Books as paper
 use Rattle.paper.specs.Calls.{Act, effect, affected}
+use Rattle.paper.specs.Refusals.{REGISTER}
 use Rattle.paper.specs.TurnedAway.{lowest, rules}
 use Rattle.paper.specs.Alone.{refusedAlone, next}
 use Rattle.paper.specs.Answers.{unless}
@@ -30,7 +31,7 @@ sightO b = Option·map paper.sight (meant b)
 -- ---- refused, or done
 
 module _ (b : Book) (a : Act) where
-  pub step-unformed : bookForm b ≡ false → step 1 b ≡ stepOf a b
+  pub step-unformed : bookForm b ≡ false → step REGISTER b ≡ stepOf a b
   unfolding stepOf refusedAlone next
   step-unformed e = rw (seen-out b e)
 
@@ -48,10 +49,10 @@ module _ (b : Book) (a : Act) where
 
 module _ (b : Book) (s : Sized b) (o : Sound b) where
   pub kept-words : changesOf KEPT (entries (b .kept) (b .changes)) ≡ b .changes
-  kept-words = changes-entries KEPT (b .kept) (b .changes) (s .changes-128) (o .few) (o .rest)
+  kept-words = changes-entries KEPT (b .kept) (b .changes) (s .changes) (o .few) (o .rest)
 
   pub cell-words : cellsOf (placesOf (b .cells)) ≡ b .cells
-  cell-words = cells-places (b .cells) (s .cells-90)
+  cell-words = cells-places (b .cells) (s .cells)
 
   pub kept-count : length (openOf b .kept) ≡ b .kept
   unfolding openOf

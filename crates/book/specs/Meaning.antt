@@ -6,6 +6,7 @@ use lib.ListN.{length, replicate}
 use lib.Dec.{eqb}
 use Rattle.paper.specs.Procedure.{KEPT}
 use Rattle.paper.specs.Books as paper
+use Rattle.image.specs.Layout.{TERM-WORDS, CELL-WORDS, CHANGE-WORDS}
 use Rattle.image.specs.Lengths.{termsOf, termWords}
 use Rattle.image.specs.Places.{placesOf, cellsOf}
 use Rattle.image.specs.Changes.{entries, changesOf}
@@ -14,7 +15,7 @@ use Rattle.book.specs.declared.Book.{Book}
 
 -- the words of a book: a closed one is all zero
 unfoldable pub bookOf : Option paper.Book → Book
-bookOf none = record { opened = 0; terms = replicate 12 0; cells = replicate 90 0; kept = 0; changes = replicate 128 0 }
+bookOf none = record { opened = 0; terms = replicate TERM-WORDS 0; cells = replicate CELL-WORDS 0; kept = 0; changes = replicate CHANGE-WORDS 0 }
 bookOf (some b) =
     record {
       opened = 1;

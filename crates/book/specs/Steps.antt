@@ -11,6 +11,7 @@ use Rattle.paper.specs.Books as paper
 use Rattle.paper.specs.Calls.{Act}
 use Rattle.paper.specs.Alone.{refusedAlone, next}
 use Rattle.words.specs.Paste.{pasted}
+use Rattle.image.specs.Layout.{CHANGE-WORDS}
 use Rattle.image.specs.Lengths.{triple, termsOf}
 use Rattle.image.specs.Places.{spotAt}
 use Rattle.changes.specs.Kept.{pushed, popped, more}
@@ -78,4 +79,4 @@ placedOf b a x y h = cond (eqb (a .refusal) 0) (putOf b (a .place) x y h) (step 
 
 -- an open book with these terms and readings, and nothing to take back
 unfoldable pub filledOf : List ℕ → List ℕ → Book
-filledOf terms cells = record { opened = 1; terms = terms; cells = cells; kept = 0; changes = replicate 128 0 }
+filledOf terms cells = record { opened = 1; terms = terms; cells = cells; kept = 0; changes = replicate CHANGE-WORDS 0 }

@@ -10,6 +10,7 @@ use borrow.Author.Tests.{le-leb, eq-eqb, ne-eqb}
 use Rattle.paper.specs.Units.{Terms, Places, isEmpty}
 use Rattle.paper.specs.Screening.{Suspect, firstSuspect}
 use Rattle.paper.specs.Verdicts.{sum, samePopulation}
+use Rattle.paper.specs.Refusals.{SHORT, SUSPECT, ZERO}
 use Rattle.paper.specs.TurnedAway.{some?, short, suspectOf, sumOf, lowest, questioned}
 use Rattle.paper.specs.Answers.{suspectIn, given, beside, says}
 use Rattle.image.specs.Lengths.{termsOf}
@@ -42,7 +43,7 @@ module _ (axis first second : ℕ) where
   unfolding samePopulation
   same-h h = rw (ne-eqb axis 1 h)
 
-  pub sums-zero : second ≡ 0 → notCompared 12 0 0 0 ≡ bySums axis first second
+  pub sums-zero : second ≡ 0 → notCompared ZERO 0 0 0 ≡ bySums axis first second
   unfolding bySums
   sums-zero h = rw (eq-eqb second 0 h)
 
@@ -53,11 +54,11 @@ module _ (axis first second : ℕ) where
 
 -- ---- two full books
 
-pub first-is : (o p : Option Suspect) (r : Compared) (i j k : ℕ) → At i j k ≡ foundOf o → notCompared 11 i j k ≡ bySuspects o p r
+pub first-is : (o p : Option Suspect) (r : Compared) (i j k : ℕ) → At i j k ≡ foundOf o → notCompared SUSPECT i j k ≡ bySuspects o p r
 unfolding bySuspects
 first-is o p r i j k e = rw (some-is o i j k e)
 
-pub second-is : (o p : Option Suspect) (r : Compared) (i j k : ℕ) → Nowhere ≡ foundOf o → At i j k ≡ foundOf p → notCompared 11 i j k ≡ bySuspects o p r
+pub second-is : (o p : Option Suspect) (r : Compared) (i j k : ℕ) → Nowhere ≡ foundOf o → At i j k ≡ foundOf p → notCompared SUSPECT i j k ≡ bySuspects o p r
 unfolding bySuspects
 second-is o p r i j k h e = rw (none-is o h, some-is p i j k e)
 
@@ -68,11 +69,11 @@ both-clear o p axis a b a' b' h g e f = rw (none-is o h, none-is p g, e, f)
 -- ---- any two books in form
 
 module _ (axis : ℕ) (t l u m : List ℕ) (lo : 1 ≤ axis) (hi : axis ≤ 2) where
-  pub short-first : some? isEmpty (placesOf l) ≡ true → notCompared 10 0 0 0 ≡ comparedOf (comparisonTo axis (sightOf t l) (sightOf u m))
+  pub short-first : some? isEmpty (placesOf l) ≡ true → notCompared SHORT 0 0 0 ≡ comparedOf (comparisonTo axis (sightOf t l) (sightOf u m))
   unfolding comparedOf comparisonTo says lowest questioned beside short
   short-first e = rw (le-leb 1 axis lo, le-leb axis 2 hi, e)
 
-  pub short-second : some? isEmpty (placesOf l) ≡ false → some? isEmpty (placesOf m) ≡ true → notCompared 10 0 0 0 ≡ comparedOf (comparisonTo axis (sightOf t l) (sightOf u m))
+  pub short-second : some? isEmpty (placesOf l) ≡ false → some? isEmpty (placesOf m) ≡ true → notCompared SHORT 0 0 0 ≡ comparedOf (comparisonTo axis (sightOf t l) (sightOf u m))
   unfolding comparedOf comparisonTo says lowest questioned beside short
   short-second e f = rw (le-leb 1 axis lo, le-leb axis 2 hi, e, f)
 

@@ -12,6 +12,7 @@ use lib.Dec.{eqb}
 use borrow.Author.Tests.{eqb-true, eqb-false}
 use Rattle.words.specs.Paste.{pasted}
 use Rattle.paper.specs.Units.{Terms, Places}
+use Rattle.image.specs.Layout.{TERM-WORDS, CELL-WORDS}
 use Rattle.image.specs.Lengths.{word, termWords}
 use Rattle.image.specs.Places.{cellsOf}
 use Rattle.image.proofs.Places.{length-cells}
@@ -67,7 +68,7 @@ module _ (s : List ℕ) {a b c i : ℕ} (e : table s ≡ got (a, b, c) (drop i s
       go [] p = absurd (omega arith)
       go (b ∷ l) p = refl
 
-  formed-all : k ≡ length s → length ts₀ ≡ 12 → length cells₀ ≡ 90 → Formed true ts cells (whole s)
+  formed-all : k ≡ length s → length ts₀ ≡ TERM-WORDS → length cells₀ ≡ CELL-WORDS → Formed true ts cells (whole s)
   unfolding ends
   formed-all f p q =
       let m : length s ≤ k = omega arith in
@@ -81,7 +82,7 @@ module _ (s : List ℕ) {a b c i : ℕ} (e : table s ≡ got (a, b, c) (drop i s
       (h .holds ∙ pasted-all cells₀ (cellsOf (h .value)) (omega (arith, length-cells (h .value), v .thirty)))
 
   -- of the form exactly if nothing is left
-  pub formed-by : length ts₀ ≡ 12 → length cells₀ ≡ 90 → Formed (eqb k (length s)) ts cells (whole s)
+  pub formed-by : length ts₀ ≡ TERM-WORDS → length cells₀ ≡ CELL-WORDS → Formed (eqb k (length s)) ts cells (whole s)
   formed-by p q = go (eqb k (length s)) refl
     where
       go : (r : Bool) → eqb k (length s) ≡ r → Formed r ts cells (whole s)
@@ -94,7 +95,7 @@ abbrev held : Bool → List ℕ → List ℕ → Contents
 held r ts cells = record { formed = r; terms = ts; cells = cells }
 
 module _ (bs : List ℕ) where
-  pub holds-none : readOf bs ≡ none → held false (replicate 12 0) (replicate 90 0) ≡ contentsOf (readOf bs)
+  pub holds-none : readOf bs ≡ none → held false (replicate TERM-WORDS 0) (replicate CELL-WORDS 0) ≡ contentsOf (readOf bs)
   unfolding contentsOf
   holds-none e = rw e
 

@@ -6,6 +6,7 @@ use mathlib.Core.Option.{Option, none, some}
 use mathlib.Core.List.{List, []}
 use lib.ListN.{replicate}
 use Rattle.paper.specs.Units.{Terms, Places}
+use Rattle.image.specs.Layout.{TERM-WORDS, CELL-WORDS}
 use Rattle.image.specs.Lengths.{termWords}
 use Rattle.image.specs.Places.{cellsOf}
 use Rattle.decimals.specs.Reader.{Parsed, got, bad}
@@ -18,5 +19,5 @@ pub record Formed (r : Bool) (ts cells : List ℕ) (p : Parsed (Terms × Places)
 
 -- a file's terms and readings as words; nothing is left of a file that is not of the form
 unfoldable pub contentsOf : Option (Terms × Places) → Contents
-contentsOf none = record { formed = false; terms = replicate 12 0; cells = replicate 90 0 }
+contentsOf none = record { formed = false; terms = replicate TERM-WORDS 0; cells = replicate CELL-WORDS 0 }
 contentsOf (some c) = record { formed = true; terms = termWords (c .0); cells = cellsOf (c .1) }

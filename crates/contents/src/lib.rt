@@ -1,6 +1,7 @@
 // What a field file holds: whether it is of the form, and its terms and readings.
 ghost use mathlib.Core.Path.{_≡_};
 ghost use lib.ListN.{length};
+ghost use Rattle.image.specs.Layout.{TERM-WORDS, CELL-WORDS};
 ghost use Rattle.fieldfile.specs.Reader.{whole, readOf};
 ghost use Rattle.contents.specs.Given.{Formed, contentsOf};
 use decimals::Read;
@@ -19,7 +20,7 @@ pub struct Contents {
 
 // A file of any length: yes, with the words of its terms and readings; or no.
 fn formed(s: &[u8], terms: &mut [u64], cells: &mut [u64]) -> bool
-    requires { ⌜ (length (now terms) ≡ 12) × (length (now cells) ≡ 90) ⌝ }
+    requires { ⌜ (length (now terms) ≡ TERM-WORDS) × (length (now cells) ≡ CELL-WORDS) ⌝ }
     ensures { λ r. ⌜ Formed r (now (terms .exit)) (now (cells .exit)) (whole (now (s .entry))) ⌝ }
 {
     let Counts::Of(a, b, c, i) = table::table_at(s) else {

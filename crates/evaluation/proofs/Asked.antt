@@ -9,6 +9,7 @@ use mathlib.Core.List.{List}
 use borrow.Author.Tests.{ne-eqb}
 use Rattle.paper.specs.Books.{Sight}
 use Rattle.paper.specs.Calls.{ask, evaluate}
+use Rattle.paper.specs.Refusals.{SUSPECT}
 use Rattle.paper.specs.TurnedAway.{short, suspectOf, lowest, evaluating, evaluated, onList, noBook, questioned}
 use Rattle.paper.specs.Answers.{suspectIn, given, beside, answered, says}
 use Rattle.image.specs.Sights.{sightOf, Seen}
@@ -22,8 +23,8 @@ pub list-asked : (v : Sight) (t l : List ℕ) → Seen v t l → onList (some v)
 unfolding onList evaluating short suspectOf evaluated
 list-asked v t l m = rw (m .terms, m .places)
 
--- ---- refused before a book is looked at: neither accepted nor 11
+-- ---- refused before a book is looked at: neither accepted nor SUSPECT
 
-pub evaluate-refused : (n : ℕ) → (n ≡ 0 → ⊥) → (n ≡ 11 → ⊥) → (s : ℕ → Option Sight) (k : ℕ) → judgementOf (answered n (evaluate k) s) ≡ notJudged n 0 0 0
+pub evaluate-refused : (n : ℕ) → (n ≡ 0 → ⊥) → (n ≡ SUSPECT → ⊥) → (s : ℕ → Option Sight) (k : ℕ) → judgementOf (answered n (evaluate k) s) ≡ notJudged n 0 0 0
 unfolding judgementOf notJudged beside
-evaluate-refused n ne ne' s k = rw (ne-eqb n 0 ne, ne-eqb n 11 ne')
+evaluate-refused n ne ne' s k = rw (ne-eqb n 0 ne, ne-eqb n SUSPECT ne')

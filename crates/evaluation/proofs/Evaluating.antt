@@ -8,6 +8,7 @@ use mathlib.Core.List.{List}
 use Rattle.paper.specs.Units.{Terms, Places, isEmpty}
 use Rattle.paper.specs.Screening.{Suspect, firstSuspect}
 use Rattle.paper.specs.Verdicts.{evaluation, bothWithin}
+use Rattle.paper.specs.Refusals.{SHORT, SUSPECT}
 use Rattle.paper.specs.TurnedAway.{some?, short, suspectOf, lowest, evaluating, questioned, evaluated, onList}
 use Rattle.paper.specs.Answers.{suspectIn, given, beside, says}
 use Rattle.paper.specs.declared.Evaluation.{Evaluation}
@@ -22,7 +23,7 @@ use Rattle.evaluation.specs.Evaluating.{answerTo, judgementOf, notJudged
 
 -- ---- a full book
 
-pub suspect-is : (o : Option Suspect) (t : Terms) (l : Places) (i j k : ℕ) → At i j k ≡ foundOf o → notJudged 11 i j k ≡ afterScreen o t l
+pub suspect-is : (o : Option Suspect) (t : Terms) (l : Places) (i j k : ℕ) → At i j k ≡ foundOf o → notJudged SUSPECT i j k ≡ afterScreen o t l
 unfolding afterScreen
 suspect-is o t l i j k e = rw (some-is o i j k e)
 
@@ -34,7 +35,7 @@ clear-is o t l e h f = rw (none-is o h, f)
 -- ---- any book in form
 
 module _ (t l : List ℕ) where
-  pub short-is : some? isEmpty (placesOf l) ≡ true → notJudged 10 0 0 0 ≡ judgementOf (answerTo (sightOf t l))
+  pub short-is : some? isEmpty (placesOf l) ≡ true → notJudged SHORT 0 0 0 ≡ judgementOf (answerTo (sightOf t l))
   unfolding notJudged judgementOf answerTo says lowest questioned evaluating short beside
   short-is e = rw e
 

@@ -1,6 +1,6 @@
 // The figures of a full book in form, and the verdicts on them, in whole numbers, from its sums.
 ghost use mathlib.Core.Path.{_≡_};
-ghost use Prim.Native.Nat.{_+_, _≤_, _<_};
+ghost use Prim.Native.Nat.{_≤_, _<_};
 ghost use Rattle.paper.specs.Figures.{shown};
 ghost use Rattle.paper.specs.Verdicts.{evaluation, bothWithin};
 ghost use Rattle.image.specs.Lengths.{ORIGIN, len, termsOf};

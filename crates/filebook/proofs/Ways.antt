@@ -10,6 +10,7 @@ use lib.ListN.{length}
 use borrow.Author.Tests.{eq-eqb}
 use Rattle.paper.specs.Procedure.{PLACES, KEPT}
 use Rattle.paper.specs.Units.{Terms, Places, inRange, allNear}
+use Rattle.paper.specs.Refusals.{TERMS, FAR, FORM}
 use Rattle.paper.specs.TurnedAway.{lowest}
 use Rattle.paper.specs.Form.{formed, formedO, takeable}
 use Rattle.paper.specs.Alone as alone
@@ -42,11 +43,11 @@ module _ (t : Terms) (l : Places) (p : Printable t l) where
 
   -- ---- TERMS, FAR, or the book
 
-  pub read-range : inRange t ≡ false → alone.refusedFile (some (t, l)) ≡ 4
+  pub read-range : inRange t ≡ false → alone.refusedFile (some (t, l)) ≡ TERMS
   unfolding alone.refusedFile lowest
   read-range e = rw e
 
-  pub read-far : inRange t ≡ true → allNear t 0 l ≡ false → alone.refusedFile (some (t, l)) ≡ 8
+  pub read-far : inRange t ≡ true → allNear t 0 l ≡ false → alone.refusedFile (some (t, l)) ≡ FAR
   unfolding alone.refusedFile lowest
   read-far e f = rw (e, f)
 
@@ -96,7 +97,7 @@ was-read bs c e f = go (readOf bs) refl e
     }
 
 module _ (bs : List ℕ) where
-  pub way-form : readOf bs ≡ none → record { refusal = 14; book = bookOf none } ≡ bookRead (readOf bs)
+  pub way-form : readOf bs ≡ none → record { refusal = FORM; book = bookOf none } ≡ bookRead (readOf bs)
   unfolding bookRead alone.refusedFile alone.bookOf
   way-form e = rw e
 
@@ -107,12 +108,12 @@ module _ (bs : List ℕ) where
     near-of : (r : Bool) → allNear (termsOf (c .terms)) 0 (placesOf (c .cells)) ≡ r → allNear (d .t) 0 (d .l) ≡ r
     near-of r e = near-read (d .t) (d .l) (d .printable) r (sym (rw (d .terms, d .cells)) ∙ e)
 
-    pub way-terms : inRange (termsOf (c .terms)) ≡ false → record { refusal = 4; book = bookOf none } ≡ bookRead (readOf bs)
+    pub way-terms : inRange (termsOf (c .terms)) ≡ false → record { refusal = TERMS; book = bookOf none } ≡ bookRead (readOf bs)
     unfolding bookRead alone.bookOf
     way-terms e = rw (d .reads, read-range (d .t) (d .l) (d .printable) (range-of false e))
 
     module _ (e : inRange (termsOf (c .terms)) ≡ true) where
-      pub way-far : allNear (termsOf (c .terms)) 0 (placesOf (c .cells)) ≡ false → record { refusal = 8; book = bookOf none } ≡ bookRead (readOf bs)
+      pub way-far : allNear (termsOf (c .terms)) 0 (placesOf (c .cells)) ≡ false → record { refusal = FAR; book = bookOf none } ≡ bookRead (readOf bs)
       unfolding bookRead alone.bookOf
       way-far f = rw (d .reads, read-far (d .t) (d .l) (d .printable) (range-of true e) (near-of false f))
 

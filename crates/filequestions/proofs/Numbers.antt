@@ -12,6 +12,7 @@ use Rattle.paper.specs.Units.{Terms, Places, inRange, allNear}
 use Rattle.paper.specs.Screening.{Suspect, sheetOrder, first, firstSuspect, suspicious}
 use Rattle.paper.specs.Books as paper
 use Rattle.paper.specs.Calls.{evaluate}
+use Rattle.paper.specs.Refusals.{TERMS, CLOSED, FAR, SHORT, SUSPECT}
 use Rattle.paper.specs.TurnedAway.{isClosed, short, suspectOf, found, lowest, evaluating, evaluated, questioned}
 use Rattle.paper.specs.Answers.{evaluates, Answer, nowhere, named, suspectIn, given, beside, answered, says, unless}
 use Rattle.paper.specs.Alone as alone
@@ -73,7 +74,7 @@ prints n s h = record {
   figures = cond (eqb n 0) (evaluated (s 1)) (evaluated none);
   value = values (eqb n 0);
   refused = h;
-  suspect = suspects (eqb n 11);
+  suspect = suspects (eqb n SUSPECT);
 }
   where
     values : (b : Bool) → cond b (evaluates (evaluated (s 1))) (evaluates (evaluated none)) ≡ evaluates (cond b (evaluated (s 1)) (evaluated none))
@@ -88,7 +89,7 @@ evaluating-small : (o : Option paper.Sight) → small (lowest (questioned (evalu
 unfolding lowest questioned evaluating
 evaluating-small o = go (isClosed o) (short o) (found (suspectOf o))
   where
-    go : (a b c : Bool) → small (cond a 5 (cond b 10 (cond c 11 0))) ≡ true
+    go : (a b c : Bool) → small (cond a CLOSED (cond b SHORT (cond c SUSPECT 0))) ≡ true
     go true b c = refl
     go false true c = refl
     go false false true = refl
@@ -99,7 +100,7 @@ unfolding alone.refusedFile lowest
 file-small none = refl
 file-small (some c) = go (inRange (c .0)) (allNear (c .0) 0 (c .1))
   where
-    go : (r n : Bool) → small (cond (not r) 4 (cond (not n) 8 0)) ≡ true
+    go : (r n : Bool) → small (cond (not r) TERMS (cond (not n) FAR 0)) ≡ true
     go true true = refl
     go true false = refl
     go false n = refl

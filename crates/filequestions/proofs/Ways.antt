@@ -8,6 +8,7 @@ use mathlib.Core.Option.{Option, none, some}
 use mathlib.Core.List.{List}
 use Rattle.paper.specs.Units.{Terms, Places, inRange, allNear}
 use Rattle.paper.specs.Calls.{evaluate}
+use Rattle.paper.specs.Refusals.{TERMS, FAR, SUSPECT}
 use Rattle.paper.specs.TurnedAway.{lowest}
 use Rattle.paper.specs.Form.{formedO}
 use Rattle.paper.specs.Answers.{answered, unless}
@@ -23,12 +24,12 @@ use Rattle.evaluation.proofs.Asked.{evaluate-refused}
 use Rattle.filebook.specs.FileBook.{bookRead}
 use Rattle.filebook.proofs.Ways.{read-range, read-far, filled-formed}
 
-file-not-suspect : (c : Option (Terms × Places)) → alone.refusedFile c ≡ 11 → ⊥
+file-not-suspect : (c : Option (Terms × Places)) → alone.refusedFile c ≡ SUSPECT → ⊥
 unfolding alone.refusedFile lowest
 file-not-suspect none e = omega arith
 file-not-suspect (some c) e = go (inRange (c .0)) (allNear (c .0) 0 (c .1)) e
   where
-    go : (r n : Bool) → _≡_ {A = ℕ} (cond (not r) 4 (cond (not n) 8 0)) 11 → ⊥
+    go : (r n : Bool) → _≡_ {A = ℕ} (cond (not r) TERMS (cond (not n) FAR 0)) SUSPECT → ⊥
     go true true e = omega arith
     go true false e = omega arith
     go false n e = omega arith
@@ -54,7 +55,7 @@ module _ (bs : List ℕ) (s : Step) (e : s ≡ bookRead (readOf bs)) where
   unfolding alone.evaluatedFile bookRead
   file-refused n = rw e (go (alone.refusedFile file) refl (λ z. n (rw e z)) (file-not-suspect file))
     where
-      go : (m : ℕ) → alone.refusedFile file ≡ m → (m ≡ 0 → ⊥) → (m ≡ 11 → ⊥) → notJudged m 0 0 0 ≡ judgementOf (unless m (alone.askedAlone evaluate (some (alone.bookOf file))) (answered m (evaluate 1) (λ k. none)))
+      go : (m : ℕ) → alone.refusedFile file ≡ m → (m ≡ 0 → ⊥) → (m ≡ SUSPECT → ⊥) → notJudged m 0 0 0 ≡ judgementOf (unless m (alone.askedAlone evaluate (some (alone.bookOf file))) (answered m (evaluate 1) (λ k. none)))
       go zero u f g = absurd (f refl)
       go (suc m) u f g = sym (evaluate-refused (suc m) f g (λ k. none) 1)
 

@@ -16,8 +16,8 @@ use Rattle.image.specs.Places.{placesOf}
 use Rattle.image.specs.Changes.{entries, zeros}
 use Rattle.image.proofs.Places.{length-places}
 use Rattle.image.proofs.Changes.{length-entries}
-use Rattle.ranges.proofs.Laws.{both}
-use Rattle.form.specs.Whole.{blank, sound, wordsForm}
+use Rattle.ranges.proofs.Laws.{and-same}
+use Rattle.form.specs.Whole.{bare, sound, wordsForm}
 
 module _ (t l : List ℕ) (k : ℕ) (ch : List ℕ) where
   abbrev b : Book
@@ -47,10 +47,10 @@ module _ (t l : List ℕ) (k : ℕ) (ch : List ℕ) where
 
   pub sound-is : {u r s : Bool} → k ≤ KEPT → u ≡ zeros (drop (k * 4) ch) → r ≡ inRange (termsOf t) → s ≡ Near && Taken → u && (r && s) ≡ sound t l k ch
   unfolding sound
-  sound-is h unused range stand = rw (le-leb k KEPT h) (both unused (both range stand ∙ formed-is h))
+  sound-is h unused range stand = rw (le-leb k KEPT h) (and-same unused (and-same range stand ∙ formed-is h))
 
   module _ (o : ℕ) where
-    pub form-closed : {r : Bool} → o ≡ 0 → r ≡ blank t l k ch → r ≡ wordsForm o t l k ch
+    pub form-closed : {r : Bool} → o ≡ 0 → r ≡ bare t l k ch → r ≡ wordsForm o t l k ch
     unfolding wordsForm
     form-closed z e = rw (eq-eqb o 0 z) e
 

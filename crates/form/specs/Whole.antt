@@ -11,8 +11,8 @@ use Rattle.image.specs.Places.{placesOf}
 use Rattle.image.specs.Changes.{entries, zeros}
 
 -- a closed book is empty
-unfoldable pub blank : List ℕ → List ℕ → ℕ → List ℕ → Bool
-blank t l k ch = eqb k 0 && (zeros t && (zeros l && zeros ch))
+unfoldable pub bare : List ℕ → List ℕ → ℕ → List ℕ → Bool
+bare t l k ch = eqb k 0 && (zeros t && (zeros l && zeros ch))
 
 -- an open one is in the paper's form, and words that are not used are 0
 unfoldable pub sound : List ℕ → List ℕ → ℕ → List ℕ → Bool
@@ -21,4 +21,4 @@ sound t l k ch =
     && (zeros (drop (k * 4) ch) && formed (record { terms = termsOf t; places = placesOf l; kept = entries k ch }))
 
 unfoldable pub wordsForm : ℕ → List ℕ → List ℕ → ℕ → List ℕ → Bool
-wordsForm o t l k ch = cond (eqb o 0) (blank t l k ch) (eqb o 1 && sound t l k ch)
+wordsForm o t l k ch = cond (eqb o 0) (bare t l k ch) (eqb o 1 && sound t l k ch)

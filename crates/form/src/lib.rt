@@ -3,7 +3,7 @@ ghost use mathlib.Core.Path.{_≡_};
 ghost use Prim.Native.Nat.{_≤_};
 ghost use lib.ListN.{length, drop};
 ghost use Rattle.image.specs.Changes.{zeros};
-ghost use Rattle.form.specs.Whole.{blank, sound, wordsForm};
+ghost use Rattle.form.specs.Whole.{bare, sound, wordsForm};
 use image::Layout;
 use procedure::Procedure;
 
@@ -23,13 +23,13 @@ fn zero_from(l: &[u64], from: usize) -> bool
 }
 
 // The words of a closed book.
-fn blank(
+fn bare(
     terms: &[u64; Layout::TERMS],
     cells: &[u64; Layout::CELLS],
     kept: u64,
     changes: &[u64; Layout::CHANGES],
 ) -> bool
-    ensures { λ r. ⌜ r ≡ blank (now (terms .entry)) (now (cells .entry)) kept (now (changes .entry)) ⌝ }
+    ensures { λ r. ⌜ r ≡ bare (now (terms .entry)) (now (cells .entry)) kept (now (changes .entry)) ⌝ }
 {
     (kept == 0) & (zero_from(terms, 0) & (zero_from(cells, 0) & zero_from(changes, 0)))
 }
@@ -61,7 +61,7 @@ pub fn in_form<'a>(
     ensures { λ r. ⌜ r ≡ wordsForm opened (now (terms .entry)) (now (cells .entry)) kept (now (changes .entry)) ⌝ }
 {
     if opened == 0 {
-        return blank(terms, cells, kept, changes);
+        return bare(terms, cells, kept, changes);
     }
     if opened == 1 {
         return sound(terms, cells, kept, changes);

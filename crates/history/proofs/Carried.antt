@@ -14,6 +14,7 @@ use Rattle.paper.specs.Procedure.{BOOKS, KEPT}
 use Rattle.paper.specs.Units.{zeros, oneTo, Place, inSheet, number, isEmpty, Spot, standing}
 use Rattle.paper.specs.Books.{Book, Register, book, Sight, sight, sights}
 use Rattle.paper.specs.Calls.{Act, takeBack, read, changes, residual, evaluate, compare, passList, Call, fresh, on, ask}
+use Rattle.paper.specs.Refusals.{EMPTY, SUSPECT}
 use Rattle.paper.specs.TurnedAway.{empty, lowest, refusal, evaluating, onList, has, passing, questioned}
 use Rattle.paper.specs.Answers.{lengths, numbersIn, Answer, nowhere, suspectIn, countOf, given, beside, says, after, run}
 use Rattle.paper.specs.Form.{formedO, InForm}
@@ -97,7 +98,7 @@ same-answer c k o s t e = looks-at c k o s ∙ ap (λ (u : Option Sight). says c
 
 -- ---- what is read, and how many changes can be taken back
 
-read-spot : (v : Spot) → _≡_ {A = Answer} (record { refused = cond (isEmpty v) 7 0; suspect = cond (eqb (cond (isEmpty v) 7 0) 11) nowhere nowhere; value = cond (eqb (cond (isEmpty v) 7 0) 0) (lengths (standing v)) (lengths zeros) }) (readAs v)
+read-spot : (v : Spot) → _≡_ {A = Answer} (record { refused = cond (isEmpty v) EMPTY 0; suspect = cond (eqb (cond (isEmpty v) EMPTY 0) SUSPECT) nowhere nowhere; value = cond (eqb (cond (isEmpty v) EMPTY 0) 0) (lengths (standing v)) (lengths zeros) }) (readAs v)
 read-spot none = refl
 read-spot (some v) = refl
 

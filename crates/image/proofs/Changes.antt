@@ -4,7 +4,6 @@ use Prim.Native.Nat.{ℕ, zero, suc, _+_, _-_, _*_, _≤_, _<_}
 use native.Mathlib.Omega.{arith}
 use mathlib.Core.Path.{_≡_, refl, sym, ap, _∙_}
 use mathlib.Core.Bool.{true}
-use mathlib.Core.Option.{none}
 use mathlib.Core.List.{List, [], _∷_, _++_, append-nil}
 use lib.ListN.{length, getD, take, drop, replicate, length-drop, take-append-drop, List·getD-eq-default}
 use lib.Seq.{take-at, drop-at}
@@ -15,10 +14,9 @@ use Rattle.words.specs.Blocks.{laid}
 use Rattle.words.proofs.Elements.{elements, elements-take}
 use Rattle.words.proofs.Blocks.{length-blocks, blocks-turn, blocks-laid, laid-blocks, length-laid, laid-append, laid-zeros}
 use Rattle.paper.specs.Procedure.{PLACES}
-use Rattle.paper.specs.Units.{Spot}
 use Rattle.paper.specs.Books.{Change}
 use Rattle.paper.proofs.Tests.{and-left, and-right}
-use Rattle.image.specs.Places.{spotAt, spotWords}
+use Rattle.image.specs.Places.{spotWords}
 use Rattle.image.specs.Changes.{change, changeIn, entries, changeWords, unused, padded, changesOf, zeros}
 use Rattle.image.proofs.Places.{length-spot, words-spot, Short, spot-words}
 

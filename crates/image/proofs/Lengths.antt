@@ -17,6 +17,7 @@ use Rattle.integers.specs.Ring.{minus-minus}
 use Rattle.integers.specs.Diff.{bias-back, bias-le, minus-sub, sub-ge, sub-lt, sub-eq, ≤-or-<}
 use Rattle.paper.specs.Units.{Terms, termsGiven, termList, approximate}
 use Rattle.paper.specs.Figures.{along}
+use Rattle.image.specs.Layout.{TERM-WORDS}
 use Rattle.image.specs.Lengths.{ORIGIN, GREATEST, len, word, wordOr, tripleAt, termsOf, termWords, termWordsOr}
 use Rattle.image.specs.Places.{axisOf}
 
@@ -111,14 +112,14 @@ point-at t (suc zero) h g = refl
 point-at t (suc (suc zero)) h g = refl
 point-at t (suc (suc (suc k))) h g = absurd (omega arith)
 
-pub length-terms : (t : Terms) → length (termList t) ≡ 12
+pub length-terms : (t : Terms) → length (termList t) ≡ TERM-WORDS
 unfolding termList
 length-terms t = refl
 
 -- words to terms to words, whatever the words
-pub words-terms : (t : List ℕ) → length t ≡ 12 → termWords (termsOf t) ≡ t
+pub words-terms : (t : List ℕ) → length t ≡ TERM-WORDS → termWords (termsOf t) ≡ t
 unfolding termList termsOf elements
-words-terms t n = simp word-len (elements-all 12 t 0 n)
+words-terms t n = simp word-len (elements-all TERM-WORDS t 0 n)
 
 -- no term is too great to be a length
 abbrev pub ShortTerms : Terms → Type 0

@@ -1,6 +1,6 @@
 -- Laws of places and their words.
 -- Assumes nothing.
-use Prim.Native.Nat.{ℕ, zero, suc, _+_, _*_, _≤_, _<_}
+use Prim.Native.Nat.{ℕ, _+_, _*_, _≤_, _<_}
 use native.Mathlib.Omega.{arith}
 use mathlib.Core.Path.{_≡_, refl, _∙_, subst}
 use mathlib.Core.Bool.{Bool, true, false, cond, _&&_}
@@ -18,6 +18,7 @@ use Rattle.words.proofs.Blocks.{length-blocks, block-at, blocks-laid, laid-bloc
 use Rattle.paper.specs.Procedure.{PLACES}
 use Rattle.paper.specs.Units.{Place, inSheet, number, Spot, Places, isEmpty}
 use Rattle.paper.proofs.Tests.{below}
+use Rattle.image.specs.Layout.{CELL-WORDS}
 use Rattle.image.specs.Lengths.{ORIGIN, word, triple}
 use Rattle.image.specs.Places.{allZero, spotOf, spotAt, spotIn, placesOf, spotWords, cellsOf, placeOf}
 use Rattle.image.proofs.Lengths.{word-len, len-word, word-not-zero}
@@ -80,7 +81,7 @@ unfolding elements
 words-in l h = words-spot (getD l 0 0) (getD l 1 0) (getD l 2 0) ∙ elements-take 0 3 l 0 h
 
 -- words to places to words, whatever the words
-pub cells-places : (l : List ℕ) → length l ≡ 3 * PLACES → cellsOf (placesOf l) ≡ l
+pub cells-places : (l : List ℕ) → length l ≡ CELL-WORDS → cellsOf (placesOf l) ≡ l
 unfolding placesOf
 cells-places l e =
     laid-blocks 3 spotWords none spotIn PLACES l (λ k h. words-in (drop (k * 3) l) (rw length-drop (omega arith)))

@@ -1,3 +1,4 @@
+pub mod Layout
 pub mod Lengths
 pub mod Places
 pub mod Changes

@@ -24,6 +24,6 @@ pub record Ready (t l : List ℕ) : Type 0 where
   pub height : Between (ORIGIN - SPAN) (ORIGIN + SPAN) (getD t 1 0)
   pub scales : (i : ℕ) → 2 ≤ i → i < 6 → IsSpread (getD t i 0)
 
--- reading i of a point and an axis, f = (point - 1) * 3 + axis, as the code keeps it: the offset + NEARBY
-abbrev pub kept : List ℕ → List ℕ → ℕ → ℕ → ℕ
-kept t l f i = getD l (i * 6 + f) 0 + NEARBY - getD t (6 + f) 0
+-- the offset of reading i of a point and an axis, f = (point - 1) * 3 + axis, raised by NEARBY so that it is not negative
+abbrev pub raised : List ℕ → List ℕ → ℕ → ℕ → ℕ
+raised t l f i = getD l (i * 6 + f) 0 + NEARBY - getD t (6 + f) 0

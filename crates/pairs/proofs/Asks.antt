@@ -7,6 +7,7 @@ use mathlib.Core.Bool.{Bool, true, false, cond, _&&_, _||_}
 use lib.Dec.{eqb}
 use borrow.Author.Tests.{eqb-true, eqb-false}
 use Rattle.paper.specs.Units.{oneTo}
+use Rattle.paper.specs.Refusals.{REGISTER, PLACE, CLOSED}
 use Rattle.paper.specs.TurnedAway.{lowest, questioned}
 use Rattle.paper.specs.Answers.{beside, says}
 use Rattle.paper.specs.Alone.{comparedAlone}
@@ -28,7 +29,7 @@ pub record Comparable (a b : Book) (axis : ℕ) : Type 0 where
 
 -- by the tests of form, of the axis and of a closed book
 abbrev refusal : Bool → Bool → Bool → Bool → Bool → ℕ
-refusal i j x k l = cond (i && j) (cond x (cond (k || l) 5 0) 2) 1
+refusal i j x k l = cond (i && j) (cond x (cond (k || l) CLOSED 0) PLACE) REGISTER
 
 module _ (a b : Book) (axis : ℕ) where
   pub comparable : 0 ≡ refusedOf a b axis → Comparable a b axis

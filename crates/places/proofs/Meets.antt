@@ -2,19 +2,18 @@
 -- Assumes nothing.
 use Prim.Native.Nat.{ℕ, zero, suc, _+_, _-_, _*_, _%_, _≤_, _<_}
 use native.Mathlib.Omega.{arith}
-use mathlib.Core.Path.{_≡_, refl, sym, ap, _∙_, subst}
+use mathlib.Core.Path.{_≡_, sym, ap, _∙_, subst}
 use mathlib.Core.Logic.{⊎-elim}
-use mathlib.Core.Bool.{Bool, true, false, _||_}
-use mathlib.Core.Option.{none}
-use mathlib.Core.List.{List, [], _∷_}
-use lib.ListN.{length, getD}
+use mathlib.Core.Bool.{true, false}
+use mathlib.Core.List.{List}
+use lib.ListN.{getD}
 use lib.IntN.{natAbs, _-ℤ_}
 use borrow.Author.Tests.{leb-true}
 use Rattle.integers.specs.Diff.{sub-ge, sub-lt, ≤-or-<, abs-sub-range}
 use Rattle.paper.specs.Procedure.{PLACES, SPAN, SPREAD, EARTH, NEARBY}
-use Rattle.paper.specs.Units.{from1To, onEarth, within, inRange, isEmpty, Places, nearAt, allNear, reading, standing}
+use Rattle.paper.specs.Units.{from1To, onEarth, within, inRange, isEmpty, nearAt, allNear, reading, standing}
 use Rattle.paper.specs.TurnedAway.{some?}
-use Rattle.paper.proofs.Tests.{among, along-within}
+use Rattle.paper.proofs.Tests.{among, filled-at, along-within}
 use Rattle.paper.proofs.Stays.{near-there}
 use Rattle.image.specs.Lengths.{ORIGIN, len, tripleAt, termsOf}
 use Rattle.image.specs.Places.{allZero, spotOf, spotAt, placesOf, axisOf}
@@ -50,19 +49,6 @@ earth-at t k a e h = up-zero EARTH (getD t (k + a) 0) (rw (along-at t k a h) at 
 
 -- ---- places
 
-or-left : (a b : Bool) → a || b ≡ false → a ≡ false
-or-left true b e = e
-or-left false b e = refl
-
-or-right : (a b : Bool) → a || b ≡ false → b ≡ false
-or-right true b e = let z : _≡_ {A = ℕ} 0 1 = cc in absurd (omega arith)
-or-right false b e = e
-
-full-at : (l : Places) (p : ℕ) → some? isEmpty l ≡ false → p < length l → isEmpty (getD l p none) ≡ false
-full-at [] p e h = absurd (omega arith)
-full-at (v ∷ l) zero e h = or-left (isEmpty v) (some? isEmpty l) e
-full-at (v ∷ l) (suc p) e h = full-at l p (or-right (isEmpty v) (some? isEmpty l) e) (omega arith)
-
 module _ (t l : List ℕ) (range : inRange (termsOf t) ≡ true) (near : allNear (termsOf t) 0 (placesOf l) ≡ true) (full : some? isEmpty (placesOf l) ≡ false) where
   abbrev x : ℕ → ℕ
   x p = getD l (p * 3) 0
@@ -74,7 +60,7 @@ module _ (t l : List ℕ) (range : inRange (termsOf t) ≡ true) (near : allNear
   h p = getD l (p * 3 + 2) 0
 
   not-zero : (p : ℕ) → p < PLACES → allZero (x p) (y p) (h p) ≡ false
-  not-zero p k = sym (empty-spot (x p) (y p) (h p)) ∙ ap isEmpty (sym (place-at l p k)) ∙ full-at (placesOf l) p full (rw (length-places l) k)
+  not-zero p k = sym (empty-spot (x p) (y p) (h p)) ∙ ap isEmpty (sym (place-at l p k) ∙ filled-at (placesOf l) p (rw (length-places l) k) full)
 
   reads : (p : ℕ) → p < PLACES → reading (placesOf l) p ≡ tripleAt l (p * 3)
   unfolding spotOf tripleAt

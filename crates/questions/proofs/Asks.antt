@@ -7,6 +7,7 @@ use mathlib.Core.Option.{some}
 use Rattle.paper.specs.Units.{zeros, Place, isEmpty}
 use Rattle.paper.specs.Books as paper
 use Rattle.paper.specs.Calls.{residual, evaluate}
+use Rattle.paper.specs.Refusals.{REGISTER, CLOSED, SHORT}
 use Rattle.paper.specs.TurnedAway.{some?, short, lowest, evaluating, questioned}
 use Rattle.paper.specs.Answers.{residualAt, given, beside, says}
 use Rattle.paper.specs.Alone.{askedAlone}
@@ -29,11 +30,11 @@ use Rattle.questions.proofs.Opened.{Opened, words-seen}
 -- ---- evaluation
 
 module _ (b : Book) where
-  pub judged-unformed : bookForm b ≡ false → notJudged 1 0 0 0 ≡ judgementOf (askedAlone evaluate (seen b))
+  pub judged-unformed : bookForm b ≡ false → notJudged REGISTER 0 0 0 ≡ judgementOf (askedAlone evaluate (seen b))
   unfolding notJudged judgementOf askedAlone beside
   judged-unformed e = rw (seen-out b e)
 
-  pub judged-closed : bookForm b ≡ true → b .opened ≡ 0 → notJudged 5 0 0 0 ≡ judgementOf (askedAlone evaluate (seen b))
+  pub judged-closed : bookForm b ≡ true → b .opened ≡ 0 → notJudged CLOSED 0 0 0 ≡ judgementOf (askedAlone evaluate (seen b))
   unfolding notJudged judgementOf askedAlone says lowest questioned evaluating beside
   judged-closed e z = rw (seen-in b e, meant-closed b z)
 
@@ -54,7 +55,7 @@ module _ (b : Book) (p : Place) (q : ℕ) (o : On b p q) where
   pub on-opened : Opened b
   on-opened = record { form = o .form; opened = o .opened }
 
-  pub residual-short : some? isEmpty (placesOf (b .cells)) ≡ true → lengthsBy 10 zeros ≡ lengthsOf (askedAlone (λ k. residual k p) (seen b))
+  pub residual-short : some? isEmpty (placesOf (b .cells)) ≡ true → lengthsBy SHORT zeros ≡ lengthsOf (askedAlone (λ k. residual k p) (seen b))
   unfolding lengthsOf askedAlone says lowest questioned beside short paper.sight openOf
   residual-short e = rw (seen-in b (o .form), meant-open b (o .opened), o .in-sheet, e)
 

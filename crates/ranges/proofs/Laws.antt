@@ -16,9 +16,9 @@ use Rattle.paper.specs.Units.{onEarth, inRange, from1To, upTo, within, near, po
 use Rattle.image.specs.Lengths.{ORIGIN, len, triple, tripleAt, termsOf}
 use Rattle.image.proofs.Lengths.{point-at, len-minus, len-pos}
 
--- two tests that are made both
-pub both : {a b c d : Bool} → a ≡ b → c ≡ d → a && c ≡ b && d
-both e f = rw (e, f)
+-- two tests, both made
+pub and-same : {a b c d : Bool} → a ≡ b → c ≡ d → a && c ≡ b && d
+and-same e f = rw (e, f)
 
 one-no : (n w : ℕ) → w ≤ ORIGIN → false ≡ from1To n (len w)
 unfolding len
@@ -59,7 +59,7 @@ from-zero n w = ap (upTo n) (len-minus w ORIGIN ∙ length-is w)
 
 pub earth : (x y h : ℕ) → within EARTH (triple ORIGIN ORIGIN ORIGIN) (triple x y h) ≡ onEarth (triple x y h)
 unfolding within onEarth
-earth x y h = both (both (from-zero EARTH x) (from-zero EARTH y)) (from-zero EARTH h)
+earth x y h = and-same (and-same (from-zero EARTH x) (from-zero EARTH y)) (from-zero EARTH h)
 
 module _ (t : List ℕ) where
   abbrev l : ℕ → ℤ

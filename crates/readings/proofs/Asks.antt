@@ -13,6 +13,7 @@ use borrow.Author.Tests.{eqb-true}
 use Rattle.paper.specs.Units.{zeros, Place, inSheet, number, nearAt, isEmpty, Spot}
 use Rattle.paper.specs.Books as paper
 use Rattle.paper.specs.Calls.{Question, read, changes}
+use Rattle.paper.specs.Refusals.{REGISTER, PLACE, CLOSED, EMPTY}
 use Rattle.paper.specs.TurnedAway.{Rule, lowest, questioned, empty}
 use Rattle.paper.specs.Answers.{lengths, given, beside, says}
 use Rattle.paper.specs.Alone.{askedAlone}
@@ -41,7 +42,7 @@ unfolding aimOf lengthsOf askedAlone says lowest
 asked-refused b p q rest n r z e f = go (bookForm b) (inSheet p) (eqb (b .opened) 0) refl refl refl e
   where
     go : (i j k : Bool) → bookForm b ≡ i → inSheet p ≡ j → eqb (b .opened) 0 ≡ k
-        → n ≡ cond i (cond j (cond k (aim 5 0) (aim 0 (number p))) (aim 2 0)) (aim 1 0) .refusal
+        → n ≡ cond i (cond j (cond k (aim CLOSED 0) (aim 0 (number p))) (aim PLACE 0)) (aim REGISTER 0) .refusal
         → lengthsBy n zeros ≡ lengthsOf (askedAlone q (seen b))
     go false j k u v w e = rw (e, seen-out b u, z)
     go true false k u v w e = rw (e, seen-in b u, r, v, z)
@@ -58,7 +59,7 @@ module _ (b : Book) (s : Sized b) (p : Place) (q : ℕ) (o : On b p q) where
   abbrev h : ℕ
   h = getD (b .cells) (q * 3 + 2) 0
 
-  read-empty : isEmpty (spotAt (b .cells) (q * 3)) ≡ true → lengthsBy 7 zeros ≡ lengthsOf (askedAlone (λ k. read k p) (seen b))
+  read-empty : isEmpty (spotAt (b .cells) (q * 3)) ≡ true → lengthsBy EMPTY zeros ≡ lengthsOf (askedAlone (λ k. read k p) (seen b))
   unfolding lengthsOf askedAlone says lowest questioned beside
   read-empty e = rw (seen-in b (o .form), o .in-sheet, empty-is b s p q o, e, meant-open b (o .opened))
 
@@ -78,24 +79,24 @@ module _ (b : Book) (s : Sized b) (p : Place) (q : ℕ) (o : On b p q) where
       full-bound x y h (full e) (spot-short (termsOf (b .terms)) q (spotAt (b .cells) (q * 3)) (ranged b s g) m)
 
 -- and EMPTY
-pub read-refused : (b : Book) (p : Place) (a : Aim) → Sized b → a ≡ soughtOf b p 7 0 → (a .refusal ≡ 0 → ⊥) → lengthsBy (a .refusal) zeros ≡ lengthsOf (askedAlone (λ k. read k p) (seen b))
+pub read-refused : (b : Book) (p : Place) (a : Aim) → Sized b → a ≡ soughtOf b p EMPTY 0 → (a .refusal ≡ 0 → ⊥) → lengthsBy (a .refusal) zeros ≡ lengthsOf (askedAlone (λ k. read k p) (seen b))
 unfolding questioned beside
-read-refused b p a s u z = go (sought-way b p 7 0 a u)
+read-refused b p a s u z = go (sought-way b p EMPTY 0 a u)
   where
-    met : On b p (a .place) → (t : Bool) → isEmpty (spotAt (b .cells) (a .place * 3)) ≡ t → a .refusal ≡ cond t 7 0
+    met : On b p (a .place) → (t : Bool) → isEmpty (spotAt (b .cells) (a .place * 3)) ≡ t → a .refusal ≡ cond t EMPTY 0
         → lengthsBy (a .refusal) zeros ≡ lengthsOf (askedAlone (λ k. read k p) (seen b))
     met o true w v = rw v (read-empty b s p (a .place) o w)
     met o false w v = absurd (z v)
 
-    go : Sought b p 7 0 a → lengthsBy (a .refusal) zeros ≡ lengthsOf (askedAlone (λ k. read k p) (seen b))
+    go : Sought b p EMPTY 0 a → lengthsBy (a .refusal) zeros ≡ lengthsOf (askedAlone (λ k. read k p) (seen b))
     go (before v n) = asked-refused b p (λ k. read k p) _ (a .refusal) refl refl (ap (λ (m : Aim). m .refusal) v) n
     go (there o v) = met o (isEmpty (spotAt (b .cells) (a .place * 3))) refl v
 
 -- a place that is read is one of the sheet, and filled
-pub read-on : (b : Book) (p : Place) (a : Aim) → a ≡ soughtOf b p 7 0 → a .refusal ≡ 0 → On b p (a .place) × (isEmpty (spotAt (b .cells) (a .place * 3)) ≡ false)
-read-on b p a u z = let o = sought-on b p 7 0 a u z in (o .0, go (isEmpty (spotAt (b .cells) (a .place * 3))) (o .1))
+pub read-on : (b : Book) (p : Place) (a : Aim) → a ≡ soughtOf b p EMPTY 0 → a .refusal ≡ 0 → On b p (a .place) × (isEmpty (spotAt (b .cells) (a .place * 3)) ≡ false)
+read-on b p a u z = let o = sought-on b p EMPTY 0 a u z in (o .0, go (isEmpty (spotAt (b .cells) (a .place * 3))) (o .1))
   where
-    go : (t : Bool) → _≡_ {A = ℕ} (cond t 7 0) 0 → t ≡ false
+    go : (t : Bool) → _≡_ {A = ℕ} (cond t EMPTY 0) 0 → t ≡ false
     go true e = absurd (omega (arith, e))
     go false e = refl
 
@@ -105,11 +106,11 @@ lengths-same x y h x′ y′ h′ e f g = rw (e, f, g)
 -- ---- the count
 
 module _ (b : Book) where
-  pub count-unformed : bookForm b ≡ false → countBy 1 0 ≡ countOf (askedAlone changes (seen b))
+  pub count-unformed : bookForm b ≡ false → countBy REGISTER 0 ≡ countOf (askedAlone changes (seen b))
   unfolding countOf askedAlone beside
   count-unformed e = rw (seen-out b e)
 
-  pub count-closed : bookForm b ≡ true → b .opened ≡ 0 → countBy 5 0 ≡ countOf (askedAlone changes (seen b))
+  pub count-closed : bookForm b ≡ true → b .opened ≡ 0 → countBy CLOSED 0 ≡ countOf (askedAlone changes (seen b))
   unfolding countOf askedAlone says lowest questioned beside
   count-closed e z = rw (seen-in b e, meant-closed b z)
 

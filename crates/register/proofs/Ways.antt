@@ -13,6 +13,7 @@ use borrow.Author.Tests.{eq-eqb, ne-eqb, lt-ltb, le-ltb}
 use Rattle.paper.specs.Procedure.{BOOKS}
 use Rattle.paper.specs.Books as paper
 use Rattle.paper.specs.Calls.{fresh, ask, passList}
+use Rattle.paper.specs.Refusals.{REGISTER, ROOM}
 use Rattle.paper.specs.TurnedAway.{lowest, questioned, passing}
 use Rattle.paper.specs.Answers.{says, after, given, beside}
 use Rattle.words.specs.Paste.{pasted}
@@ -26,7 +27,7 @@ use Rattle.register.specs.Answers.{listAfter}
 
 module _ (bs buffer : List ℕ) where
   pub list-unformed : inForm bs ≡ false
-      → (countBy 1 0 ≡ countOf (called (ask (passList (length buffer))) bs .answer)) × (buffer ≡ listAfter (called (ask (passList (length buffer))) bs .answer) buffer)
+      → (countBy REGISTER 0 ≡ countOf (called (ask (passList (length buffer))) bs .answer)) × (buffer ≡ listAfter (called (ask (passList (length buffer))) bs .answer) buffer)
   unfolding called callOn shut beside countOf listAfter pasted
   list-unformed e = (rw (state-out bs e), rw (state-out bs e))
 
@@ -38,7 +39,7 @@ module _ (bs buffer : List ℕ) where
     count-is = ap length (sym l) ∙ length-take-le n numbers m
 
     pub list-room : length buffer < n
-        → (countBy 13 0 ≡ countOf (called (ask (passList (length buffer))) bs .answer)) × (buffer ≡ listAfter (called (ask (passList (length buffer))) bs .answer) buffer)
+        → (countBy ROOM 0 ≡ countOf (called (ask (passList (length buffer))) bs .answer)) × (buffer ≡ listAfter (called (ask (passList (length buffer))) bs .answer) buffer)
     unfolding called callOn says lowest questioned beside countOf listAfter pasted
     list-room h =
         let z : ltb (length buffer) (length p) ≡ true = lt-ltb (length buffer) (length p) (omega (arith, count-is)) in
@@ -53,7 +54,7 @@ module _ (bs buffer : List ℕ) where
 
 -- ---- a fresh register
 
-pub fresh-refused : (bs : List ℕ) → (length bs ≡ LENGTH → ⊥) → Calls fresh bs 1 bs
+pub fresh-refused : (bs : List ℕ) → (length bs ≡ LENGTH → ⊥) → Calls fresh bs REGISTER bs
 unfolding called callOn shut
 fresh-refused bs f = (rw (ne-eqb (length bs) LENGTH f), rw (ne-eqb (length bs) LENGTH f))
 

@@ -11,6 +11,7 @@ use lib.ListN.{length, take, drop, replicate, length-append}
 use lib.Seq.{take-append-seam}
 use lib.IntN.{pos}
 use Rattle.words.specs.Paste.{pasted}
+use Rattle.paper.specs.Refusals.{SUSPECT}
 use Rattle.paper.specs.Screening.{Suspect}
 use Rattle.paper.specs.declared.Judged.{Judged}
 use Rattle.decimals.specs.Ascii.{ascii}
@@ -26,13 +27,13 @@ use Rattle.report.specs.declared.Printed.{Printed}
 -- ---- what is chosen
 
 module _ (n : ℕ) (s : Suspect) where
-  pub numbers-suspect : n ≡ 11 → refusalNumbers n s ≡ map pos (n ∷ s .series ∷ s .set ∷ s .quantity ∷ [])
+  pub numbers-suspect : n ≡ SUSPECT → refusalNumbers n s ≡ map pos (n ∷ s .series ∷ s .set ∷ s .quantity ∷ [])
   unfolding refusalNumbers
-  numbers-suspect e = rw (eq-eqb n 11 e)
+  numbers-suspect e = rw (eq-eqb n SUSPECT e)
 
-  pub numbers-other : (n ≡ 11 → ⊥) → refusalNumbers n s ≡ map pos (n ∷ [])
+  pub numbers-other : (n ≡ SUSPECT → ⊥) → refusalNumbers n s ≡ map pos (n ∷ [])
   unfolding refusalNumbers
-  numbers-other e = rw (ne-eqb n 11 e)
+  numbers-other e = rw (ne-eqb n SUSPECT e)
 
   module _ (xy h : Judged) where
     pub text-accepted : n ≡ 0 → reportText n s xy h ≡ verdictText xy h
@@ -47,7 +48,7 @@ module _ (n : ℕ) (s : Suspect) where
 
 pub long-refusal : (n : ℕ) (s : Suspect) → Fits n → Fits (s .series) → Fits (s .set) → Fits (s .quantity) → length (refusalText n s) ≤ 80
 unfolding refusalText refusalNumbers all-fit ascii
-long-refusal n s p q r t = go (eqb n 11)
+long-refusal n s p q r t = go (eqb n SUSPECT)
   where
     go : (b : Bool) → length (REFUSED ++ line (cond b (map pos (n ∷ s .series ∷ s .set ∷ s .quantity ∷ [])) (map pos (n ∷ [])))) ≤ 80
     go true = simp length-append (omega (arith, long-numbers (n ∷ s .series ∷ s .set ∷ s .quantity ∷ []) (p, (q, (r, (t, tt))))))

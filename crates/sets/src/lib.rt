@@ -3,6 +3,7 @@ ghost use mathlib.Core.Path.{_≡_};
 ghost use Prim.Native.Nat.{_+_, _≤_, _<_};
 ghost use Rattle.paper.specs.Procedure.{SERIES, SETS};
 ghost use Rattle.paper.specs.Screening.{suspicious};
+ghost use Rattle.image.specs.Layout.{CELL-WORDS};
 ghost use Rattle.image.specs.Lengths.{termsOf};
 ghost use Rattle.image.specs.Places.{placesOf};
 ghost use Rattle.image.specs.Ready.{Ready};
@@ -29,7 +30,7 @@ fn words_from(series: usize, set: usize) -> usize
 
 // q of the set whose words start at m.
 fn q_from(cells: &[u64; Layout::CELLS], m: usize) -> u64
-    requires { ⌜ (m + 5 < 90) × Near (now cells) m 0 × Near (now cells) m 1 ⌝ }
+    requires { ⌜ (m + 5 < CELL-WORDS) × Near (now cells) m 0 × Near (now cells) m 1 ⌝ }
     ensures { λ r. ⌜ r ≡ qOf (now (cells .entry)) m ⌝ }
 {
     let dx = limits::apart(cells[m + 3], cells[m]);

@@ -12,6 +12,7 @@ use borrow.Author.Tests.{eq-eqb, eqb-true}
 use Rattle.paper.specs.Procedure.{BOOKS}
 use Rattle.paper.specs.Units.{oneTo}
 use Rattle.paper.specs.Books as paper
+use Rattle.paper.specs.Refusals.{REGISTER, PLACE}
 use Rattle.paper.specs.Answers.{unless}
 use Rattle.paper.proofs.Tests.{among}
 use Rattle.paper.proofs.Acts.{unless-refused}
@@ -111,18 +112,18 @@ within-seen bs k b (elsewhere e w) = rw (w, seen-image none refl)
 module _ (k : ℕ) where
   pub away-among : (n : ℕ) → oneTo BOOKS k ≡ true → turnedAway k n ≡ n
   unfolding turnedAway
-  away-among n e = rw e (go (eqb n 1) refl)
+  away-among n e = rw e (go (eqb n REGISTER) refl)
     where
-      go : (i : Bool) → eqb n 1 ≡ i → cond i 1 n ≡ n
-      go true i = sym (eqb-true n 1 i)
+      go : (i : Bool) → eqb n REGISTER ≡ i → cond i REGISTER n ≡ n
+      go true i = sym (eqb-true n REGISTER i)
       go false i = refl
 
   -- a call is accepted where the number is a book's and the book met nothing
   pub away-not : (n r : ℕ) → r ≡ turnedAway k n → r ≡ 0 → (1 ≤ k) × (k ≤ BOOKS) × (n ≡ 0)
   unfolding turnedAway
-  away-not n r e z = go (eqb n 1) (oneTo BOOKS k) refl (sym e ∙ z)
+  away-not n r e z = go (eqb n REGISTER) (oneTo BOOKS k) refl (sym e ∙ z)
     where
-      go : (i j : Bool) → oneTo BOOKS k ≡ j → cond i 1 (cond j n 2) ≡ 0 → (1 ≤ k) × (k ≤ BOOKS) × (n ≡ 0)
+      go : (i j : Bool) → oneTo BOOKS k ≡ j → cond i REGISTER (cond j n PLACE) ≡ 0 → (1 ≤ k) × (k ≤ BOOKS) × (n ≡ 0)
       go true j v w = absurd (omega (arith, w))
       go false true v w = let h = among BOOKS k v in (h .0, h .1, w)
       go false false v w = absurd (omega (arith, w))

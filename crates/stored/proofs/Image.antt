@@ -1,6 +1,6 @@
 -- A book and its bytes go together.
 -- Assumes nothing.
-use Prim.Native.Nat.{ℕ, _+_, _^_, _≤_, _<_}
+use Prim.Native.Nat.{ℕ, _+_, _*_, _^_, _≤_, _<_}
 use native.Mathlib.Omega.{arith}
 use mathlib.Core.Path.{_≡_, refl, sym, ap, _∙_, subst}
 use mathlib.Core.Bool.{true}
@@ -18,21 +18,22 @@ use Rattle.words.proofs.Elements.{each-replicate}
 use Rattle.words.proofs.Blocks.{length-blocks, blocks-add, laid-zeros}
 use Rattle.words.proofs.Words.{Bytes, Small, length-bytesOf, bytesOf-words}
 use Rattle.words.proofs.Paste.{pasted-start}
+use Rattle.image.specs.Layout.{TERM-WORDS, CELL-WORDS, CHANGE-WORDS}
 use Rattle.image.proofs.Bounds.{small-terms, small-cells, small-changes, places-short, kept-short}
 use Rattle.book.specs.declared.Book.{Book}
 use Rattle.book.specs.Meaning.{bookOf}
 use Rattle.book.proofs.Meaning.{Sized, sized-image}
-use Rattle.stored.specs.Image.{BOOK, wordsOf, bookBytes, bookAt}
+use Rattle.stored.specs.Image.{TERMS-AT, CELLS-AT, KEPT-AT, CHANGES-AT, BOOK, wordsOf, bookBytes, bookAt}
 use Rattle.stored.proofs.Stored.{Fit, read-back}
 
 pub sized-at : (bs : List ℕ) (a : ℕ) → Sized (bookAt bs a)
 unfolding bookAt
 sized-at bs a =
-    record { terms-12 = length-blocks 8 wordIn 12 (drop (a + 8) bs); cells-90 = length-blocks 8 wordIn 90 (drop (a + 104) bs); changes-128 = length-blocks 8 wordIn 128 (drop (a + 832) bs) }
+    record { terms = length-blocks 8 wordIn TERM-WORDS (drop (a + TERMS-AT) bs); cells = length-blocks 8 wordIn CELL-WORDS (drop (a + CELLS-AT) bs); changes = length-blocks 8 wordIn CHANGE-WORDS (drop (a + CHANGES-AT) bs) }
 
 pub book-drop : (bs : List ℕ) (a : ℕ) → bookAt (drop a bs) 0 ≡ bookAt bs a
 unfolding bookAt
-book-drop bs a = rw (drop-drop 8 a bs, drop-drop 104 a bs, drop-drop 824 a bs, drop-drop 832 a bs)
+book-drop bs a = rw (drop-drop TERMS-AT a bs, drop-drop CELLS-AT a bs, drop-drop KEPT-AT a bs, drop-drop CHANGES-AT a bs)
 
 -- ---- bytes to book to bytes
 
@@ -40,25 +41,38 @@ one : (l : List ℕ) → words 1 l ≡ wordIn l ∷ []
 unfolding blocks
 one l = refl
 
-words-book : (bs : List ℕ) → wordsOf (bookAt bs 0) ≡ words 232 bs
+-- the words of a book, and of what lies behind each part of it
+abbrev behindCells : ℕ
+behindCells = 1 + CHANGE-WORDS
+
+abbrev behindTerms : ℕ
+behindTerms = CELL-WORDS + behindCells
+
+abbrev WORDS : ℕ
+WORDS = 1 + (TERM-WORDS + behindTerms)
+
+words-book : (bs : List ℕ) → wordsOf (bookAt bs 0) ≡ words WORDS bs
 unfolding wordsOf bookAt
 words-book bs =
-    let d₁ : words 231 (drop 8 bs) ≡ words 12 (drop 8 bs) ++ words 219 (drop 104 bs) = blocks-add 8 wordIn 12 219 (drop 8 bs) ∙ ap (λ (l : List ℕ). words 12 (drop 8 bs) ++ words 219 l) (drop-drop 96 8 bs) in
-    let d₂ : words 219 (drop 104 bs) ≡ words 90 (drop 104 bs) ++ words 129 (drop 824 bs) = blocks-add 8 wordIn 90 129 (drop 104 bs) ∙ ap (λ (l : List ℕ). words 90 (drop 104 bs) ++ words 129 l) (drop-drop 720 104 bs) in
-    let d₃ : words 129 (drop 824 bs) ≡ words 1 (drop 824 bs) ++ words 128 (drop 832 bs) = blocks-add 8 wordIn 1 128 (drop 824 bs) ∙ ap (λ (l : List ℕ). words 1 (drop 824 bs) ++ words 128 l) (drop-drop 8 824 bs) in
-    sym (blocks-add 8 wordIn 1 231 bs ∙ rw (d₁, d₂, d₃, one bs, one (drop 824 bs)) (simp append-assoc))
+    let d₁ = next TERM-WORDS behindTerms TERMS-AT CELLS-AT refl in
+    let d₂ = next CELL-WORDS behindCells CELLS-AT KEPT-AT refl in
+    let d₃ = next 1 CHANGE-WORDS KEPT-AT CHANGES-AT refl in
+    sym (blocks-add 8 wordIn 1 (TERM-WORDS + behindTerms) bs ∙ rw (d₁, d₂, d₃, one bs, one (drop KEPT-AT bs)) (simp append-assoc))
+  where
+    next : (n m at to : ℕ) → at + n * 8 ≡ to → words (n + m) (drop at bs) ≡ words n (drop at bs) ++ words m (drop to bs)
+    next n m at to e = blocks-add 8 wordIn n m (drop at bs) ∙ ap (λ (l : List ℕ). words n (drop at bs) ++ words m l) (drop-drop (n * 8) at bs ∙ ap (λ (k : ℕ). drop k bs) e)
 
 pub bytes-book : (bs : List ℕ) → BOOK ≤ length bs → Bytes bs → bytesOf (wordsOf (bookAt bs 0)) ≡ take BOOK bs
-bytes-book bs h y = ap bytesOf (words-book bs) ∙ bytesOf-words 232 bs h y
+bytes-book bs h y = ap bytesOf (words-book bs) ∙ bytesOf-words WORDS bs h y
 
 -- ---- book to bytes to book
 
 length-image : (b : Book) → Sized b → length (bytesOf (wordsOf b)) ≡ BOOK
 unfolding wordsOf
 length-image b s =
-    let a = s .terms-12 in
-    let d = s .cells-90 in
-    let e = s .changes-128 in
+    let a = s .terms in
+    let d = s .cells in
+    let e = s .changes in
     rw length-bytesOf (simp length-append (omega arith))
 
 pub length-book : (o : Option paper.Book) → formedO o ≡ true → length (bookBytes o) ≡ BOOK
@@ -69,7 +83,7 @@ zeros n = each-replicate (λ w. w < 2 ^ 64) 0 (omega arith) n
 
 fit-image : (o : Option paper.Book) → formedO o ≡ true → Fit (bookOf o)
 unfolding bookOf
-fit-image none e = record { opened = omega arith; terms = zeros 12; cells = zeros 90; kept = omega arith; changes = zeros 128 }
+fit-image none e = record { opened = omega arith; terms = zeros TERM-WORDS; cells = zeros CELL-WORDS; kept = omega arith; changes = zeros CHANGE-WORDS }
 fit-image (some a) e =
     let g = parts a e in
     record {
@@ -89,4 +103,4 @@ book-front o l e =
 
 pub closed-bytes : bookBytes none ≡ replicate BOOK 0
 unfolding bookOf wordsOf digits
-closed-bytes = laid-zeros (digits 8) 8 232 0 refl
+closed-bytes = laid-zeros (digits 8) 8 WORDS 0 refl

@@ -7,17 +7,17 @@ use mathlib.Core.Path.{_≡_, sym, ap, _∙_, subst}
 use mathlib.Core.List.{List}
 use lib.IntN.{ℤ, pos, _-ℤ_, subℕ}
 use Rattle.integers.specs.Nats.{two-sq}
-use Rattle.integers.specs.Sigma.{ΣN, ΣN-next, Res, Σ-cong, Res-kept}
+use Rattle.integers.specs.Sigma.{ΣN, ΣN-next, Res, Σ-cong, Res-raised}
 use Rattle.paper.specs.Procedure.{POINTS, ROUNDS, PLACES, NEARBY}
 use Rattle.paper.specs.Units.{Terms, Places, pointOf}
 use Rattle.paper.specs.Figures.{Axis, x-axis, y-axis, h-axis, Q, S, offset, both, P, residual15}
-use Rattle.paper.proofs.Agreement.{Q-of-kept}
+use Rattle.paper.proofs.Agreement.{Q-of-raised}
 use Rattle.image.specs.Lengths.{termsOf}
 use Rattle.image.specs.Places.{placesOf, axisOf}
 use Rattle.image.specs.Ready.{Ready}
-use Rattle.image.proofs.Ready.{kept-offset}
+use Rattle.image.proofs.Ready.{raised-offset}
 use Rattle.sums.specs.declared.Totals.{Totals}
-use Rattle.sums.specs.Sums.{keptOf, totalsOf}
+use Rattle.sums.specs.Sums.{raisedOf, totalsOf}
 use Rattle.sums.specs.Places.{placeAt}
 use Rattle.sums.proofs.Places.{number-back}
 
@@ -36,7 +36,7 @@ most s q h k =
 pub sq-step : (u : ℕ) → u ≤ 2 * NEARBY → u * u ≤ 2 * NEARBY * u
 sq-step u h = mul-le-mul h (omega arith)
 
--- one more kept number, or square of one
+-- one more raised offset, or square of one
 pub sum-next : (f : ℕ → ℕ) (i s u : ℕ) → s ≡ ΣN i f → u ≡ f i → s + u ≡ ΣN (i + 1) f
 sum-next f i s u es eu = omega (arith, ΣN-next i f)
 
@@ -45,10 +45,10 @@ pub sum-all : (f : ℕ → ℕ) (i s : ℕ) → ROUNDS ≤ i → i ≤ ROUNDS �
 sum-all f i s lo hi es = let e : i ≡ ROUNDS = omega arith in es ∙ ap (λ (n : ℕ). ΣN n f) e
 
 pub Q-words : (t l : List ℕ) (r : Ready t l) (k a : ℕ) → 1 ≤ k → k ≤ POINTS → a < 3 → (s q : ℕ)
-    → s ≡ ΣN ROUNDS (keptOf t l k a) → q ≡ ΣN ROUNDS (λ (i : ℕ). keptOf t l k a i * keptOf t l k a i)
+    → s ≡ ΣN ROUNDS (raisedOf t l k a) → q ≡ ΣN ROUNDS (λ (i : ℕ). raisedOf t l k a i * raisedOf t l k a i)
     → ROUNDS * q - s * s ≡ Q (termsOf t) (placesOf l) (axisOf a) k
 Q-words t l r k a one two axis s q es eq =
-    rw (es, eq) (sym (Q-of-kept (termsOf t) (placesOf l) (axisOf a) k NEARBY (keptOf t l k a) (kept-offset t l r k a one two axis)))
+    rw (es, eq) (sym (Q-of-raised (termsOf t) (placesOf l) (axisOf a) k NEARBY (raisedOf t l k a) (raised-offset t l r k a one two axis)))
 
 -- the residual of the place with a number, as that of its set
 own-residual : (t : Terms) (l : Places) (n : ℕ) (a : Axis) → residual15 t l (placeAt n) a ≡ Res ROUNDS (offset t l a (pointOf n)) (n / POINTS)
@@ -56,10 +56,10 @@ unfolding residual15 S offset placeAt
 own-residual t l n a = let e : n / POINTS * POINTS + (pointOf n - 1) ≡ n = omega arith in rw (number-back n, e)
 
 pub residual-words : (t l : List ℕ) (r : Ready t l) (n a : ℕ) → n < PLACES → a < 3 → (s u : ℕ)
-    → s ≡ ΣN ROUNDS (keptOf t l (pointOf n) a) → u ≡ keptOf t l (pointOf n) a (n / POINTS)
+    → s ≡ ΣN ROUNDS (raisedOf t l (pointOf n) a) → u ≡ raisedOf t l (pointOf n) a (n / POINTS)
     → subℕ s (ROUNDS * u) ≡ residual15 (termsOf t) (placesOf l) (placeAt n) (axisOf a)
 residual-words t l r n a h axis s u es eu =
-    rw eu (Res-kept NEARBY ROUNDS (keptOf t l k a) s j es) ∙ sym moved ∙ sym (own-residual (termsOf t) (placesOf l) n (axisOf a))
+    rw eu (Res-raised NEARBY ROUNDS (raisedOf t l k a) s j es) ∙ sym moved ∙ sym (own-residual (termsOf t) (placesOf l) n (axisOf a))
   where
     k : ℕ
     k = pointOf n
@@ -70,11 +70,11 @@ residual-words t l r n a h axis s u es eu =
     e : ℕ → ℤ
     e = offset (termsOf t) (placesOf l) (axisOf a) k
 
-    as-kept : (i : ℕ) → i < ROUNDS → e i ≡ pos (keptOf t l k a i) -ℤ pos NEARBY
-    as-kept = kept-offset t l r k a (omega arith) (omega arith) axis
+    as-raised : (i : ℕ) → i < ROUNDS → e i ≡ pos (raisedOf t l k a i) -ℤ pos NEARBY
+    as-raised = raised-offset t l r k a (omega arith) (omega arith) axis
 
-    moved : Res ROUNDS e j ≡ Res ROUNDS (λ (i : ℕ). pos (keptOf t l k a i) -ℤ pos NEARBY) j
-    moved = rw (Σ-cong ROUNDS e (λ (i : ℕ). pos (keptOf t l k a i) -ℤ pos NEARBY) as-kept, as-kept j (omega arith))
+    moved : Res ROUNDS e j ≡ Res ROUNDS (λ (i : ℕ). pos (raisedOf t l k a i) -ℤ pos NEARBY) j
+    moved = rw (Σ-cong ROUNDS e (λ (i : ℕ). pos (raisedOf t l k a i) -ℤ pos NEARBY) as-raised, as-raised j (omega arith))
 
 pub totals-are : (t : Terms) (l : Places) (x y h : ℕ) → x ≡ both t l x-axis → y ≡ both t l y-axis → h ≡ both t l h-axis
     → _≡_ {A = Totals} (record { qx = x; qy = y; p = x + y; qh = h }) (totalsOf t l)

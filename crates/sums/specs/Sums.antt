@@ -6,18 +6,18 @@ use Rattle.integers.specs.Sigma.{ΣN}
 use Rattle.paper.specs.Procedure.{ROUNDS, NEARBY}
 use Rattle.paper.specs.Units.{Terms, Places}
 use Rattle.paper.specs.Figures.{Qx, Qy, Qh, P}
-use Rattle.image.specs.Ready.{kept}
+use Rattle.image.specs.Ready.{raised}
 use Rattle.sums.specs.declared.Added.{Added}
 use Rattle.sums.specs.declared.Totals.{Totals}
 
--- the kept numbers of point k and axis a (0 x, 1 y, 2 h), in the order of the sheet
-abbrev pub keptOf : List ℕ → List ℕ → ℕ → ℕ → ℕ → ℕ
-keptOf t l k a = kept t l ((k - 1) * 3 + a)
+-- the raised offsets of point k and axis a (0 x, 1 y, 2 h), in the order of the sheet
+abbrev pub raisedOf : List ℕ → List ℕ → ℕ → ℕ → ℕ → ℕ
+raisedOf t l k a = raised t l ((k - 1) * 3 + a)
 
 -- s is their sum, q the sum of their squares
 pub record Adds (t l : List ℕ) (k a : ℕ) (r : Added) : Type 0 where
-  pub s : r .s ≡ ΣN ROUNDS (keptOf t l k a)
-  pub q : r .q ≡ ΣN ROUNDS (λ (i : ℕ). keptOf t l k a i * keptOf t l k a i)
+  pub s : r .s ≡ ΣN ROUNDS (raisedOf t l k a)
+  pub q : r .q ≡ ΣN ROUNDS (λ (i : ℕ). raisedOf t l k a i * raisedOf t l k a i)
   pub s-most : r .s ≤ 3000000
   pub q-most : r .q ≤ 2 * NEARBY * r .s
 

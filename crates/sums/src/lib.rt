@@ -6,7 +6,7 @@ ghost use Rattle.paper.specs.Figures.{Q, both, residual15};
 ghost use Rattle.image.specs.Lengths.{termsOf};
 ghost use Rattle.image.specs.Places.{placesOf, axisOf};
 ghost use Rattle.image.specs.Ready.{Ready};
-ghost use Rattle.sums.specs.Sums.{keptOf, Adds, totalsOf, AllModest};
+ghost use Rattle.sums.specs.Sums.{raisedOf, Adds, totalsOf, AllModest};
 ghost use Rattle.sums.specs.Places.{placeAt};
 use image::Layout;
 use procedure::Procedure;
@@ -18,8 +18,8 @@ const SET: usize = Procedure::POINTS * 3;
 // Where the approximate values stand among the terms.
 const APPROXIMATE: usize = 6;
 
-// Reading i of a point along an axis (0 x, 1 y, 2 h), kept as its offset + NEARBY, which is not negative.
-fn kept(
+// The offset of reading i of a point along an axis (0 x, 1 y, 2 h), raised by NEARBY so that it is not negative.
+fn raised(
     terms: &[u64; Layout::TERMS],
     cells: &[u64; Layout::CELLS],
     point: usize,
@@ -27,19 +27,19 @@ fn kept(
     i: usize,
 ) -> u64
     requires { ⌜ (1 ≤ point) × (point ≤ POINTS) × (axis < 3) × (i < ROUNDS) × Ready (now terms) (now cells) ⌝ }
-    ensures { λ r. ⌜ (r ≡ keptOf (now (terms .entry)) (now (cells .entry)) point axis i) × (r ≤ 2 * NEARBY) ⌝ }
+    ensures { λ r. ⌜ (r ≡ raisedOf (now (terms .entry)) (now (cells .entry)) point axis i) × (r ≤ 2 * NEARBY) ⌝ }
 {
     let from = (point - 1) * 3 + axis;
     cells[i * SET + from] + Range::NEARBY - terms[APPROXIMATE + from]
 }
 
-// The sum of kept numbers, and the sum of their squares.
+// The sum of raised offsets, and the sum of their squares.
 struct Added {
     s: u64,
     q: u64,
 }
 
-// Both sums of the 15 kept numbers of a point and an axis.
+// Both sums of the 15 raised offsets of a point and an axis.
 fn added_up(
     terms: &[u64; Layout::TERMS],
     cells: &[u64; Layout::CELLS],
@@ -52,7 +52,7 @@ fn added_up(
     let mut s: u64 = 0;
     let mut q: u64 = 0;
     for i in 0..Procedure::ROUNDS {
-        let u = kept(terms, cells, point, axis, i);
+        let u = raised(terms, cells, point, axis, i);
         s += u;
         q += u * u;
     }
@@ -85,7 +85,7 @@ pub fn residual(
 {
     let point = place % Procedure::POINTS + 1;
     let sums = added_up(terms, cells, point, axis);
-    let u = kept(terms, cells, point, axis, place / Procedure::POINTS);
+    let u = raised(terms, cells, point, axis, place / Procedure::POINTS);
     (sums.s as i64) - ((Procedure::ROUNDS as u64 * u) as i64)
 }
 

@@ -30,8 +30,8 @@ module _ (out : List ℕ) (at : ℕ) (x y : List ℕ) (h : at + length (x ++ y) 
     pub second-fits : length mid ≡ length out → i + length y ≤ length mid
     second-fits e = omega (arith, length-append x y, p .end)
 
-    pub both : {last : List ℕ} {r : ℕ} → Put mid i y last r → Put out at (x ++ y) last r
-    both q = put-then p q (omega (arith, length-append x y, p .end))
+    pub two-put : {last : List ℕ} {r : ℕ} → Put mid i y last r → Put out at (x ++ y) last r
+    two-put q = put-then p q (omega (arith, length-append x y, p .end))
 
 -- three pieces
 module _ (out : List ℕ) (at : ℕ) (x y z : List ℕ) (h : at + length (x ++ y ++ z) ≤ length out) where
@@ -40,10 +40,10 @@ module _ (out : List ℕ) (at : ℕ) (x y z : List ℕ) (h : at + length (x ++ y
 
   module _ {mid : List ℕ} {i : ℕ} (p : Put out at x mid i) {more : List ℕ} {j : ℕ} (q : Put mid i y more j) where
     pub third-fits : length more ≡ length out → j + length z ≤ length more
-    third-fits = second-fits out at (x ++ y) z h (both out at x y two-fit p q)
+    third-fits = second-fits out at (x ++ y) z h (two-put out at x y two-fit p q)
 
     pub all-three : {last : List ℕ} {r : ℕ} → Put more j z last r → Put out at (x ++ y ++ z) last r
-    all-three = both out at (x ++ y) z h (both out at x y two-fit p q)
+    all-three = two-put out at (x ++ y) z h (two-put out at x y two-fit p q)
 
 -- from the start of a row on
 pub starts : {n k : ℕ} → n ≤ k → 0 + n ≤ k

@@ -1,7 +1,8 @@
-use Prim.Native.Nat.{_≤_}
+use Prim.Native.Nat.{_-_, _≤_}
 use native.Mathlib.Omega.{arith}
 use lib.ListN.{length, drop, length-drop}
 use lib.Seq.{take-all}
+use Rattle.image.specs.Layout.{CHANGE-WORDS}
 use Rattle.changes.specs.Kept.{popped}
 use borrow.Author.Needs.{needs}
 use Rattle.changes.proofs.pop.Statement.{statement}
@@ -32,8 +33,8 @@ returns : tie.Need-returns
 unfolding popped
 returns c =
     let s = c .before .before .before .before .before in
-    let l : length (drop 4 (s .args .t1)) ≤ 124 = simp length-drop (omega (arith, s)) in
-    simp (c .before .copy .ensures, take-all 124 (drop 4 (s .args .t1)) l)
+    let l : length (drop 4 (s .args .t1)) ≤ (CHANGE-WORDS - 4) = simp length-drop (omega (arith, s)) in
+    simp (c .before .copy .ensures, take-all (CHANGE-WORDS - 4) (drop 4 (s .args .t1)) l)
 
 pub pop-spec : {M : Type 1} → statement M
 pop-spec =

@@ -3,12 +3,12 @@ use borrow.Author.Needs.{needs}
 use Rattle.form.proofs.in_form.Statement.{statement}
 use Rattle.form.proofs.in_form.Tie as tie
 
-blank-requires : tie.Need-blank-requires
-blank-requires c κs = search needs
+bare-requires : tie.Need-bare-requires
+bare-requires c κs = search needs
 
 returns : tie.Need-returns
 returns c =
-    form-closed _ _ _ _ _ (c .before .if1 .taken) (c .blank .ensures)
+    form-closed _ _ _ _ _ (c .before .if1 .taken) (c .bare .ensures)
 
 sound-requires : tie.Need-sound-requires
 sound-requires c κs = search needs
@@ -22,4 +22,4 @@ returns-3 c =
     form-neither _ _ _ _ _ (c .before .if1 .left) (c .if2 .left)
 
 pub in-form-spec : {M : Type 1} → statement M
-in-form-spec = tie.close (tie.spec blank-requires returns sound-requires returns-2 returns-3)
+in-form-spec = tie.close (tie.spec bare-requires returns sound-requires returns-2 returns-3)

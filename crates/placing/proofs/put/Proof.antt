@@ -2,6 +2,7 @@ use Prim.Native.Nat.{_*_}
 use native.Mathlib.Omega.{arith}
 use mathlib.Core.Path.{_≡_}
 use lib.ListN.{length}
+use Rattle.image.specs.Layout.{CELL-WORDS}
 use Rattle.words.proofs.Paste.{three-pasted}
 use borrow.Author.Needs.{needs}
 use Rattle.placing.proofs.put.Statement.{statement}
@@ -36,7 +37,7 @@ array-write-out-3 c = search needs
 
 returns : tie.Need-returns
 returns c =
-    let l : length (c .args .old) ≡ 90 = search needs in
+    let l : length (c .args .old) ≡ CELL-WORDS = search needs in
     three-pasted (c .args .old) (c .args .place * 3) (c .args .x) (c .args .y) (c .args .h) (omega (arith, l, c .pre))
 
 pub put-spec : {M : Type 1} → statement M

@@ -41,7 +41,7 @@ residuals-requires : tie.Need-residuals-requires
 residuals-requires c κs =
     let s = c .before .before .before .before .before .before .before .before .before .args in
     let at : Place = record { series = s .series; set = s .set; point = s .point } in
-    let z : Sized (s .b) = record { terms-12 = search needs; cells-90 = search needs; changes-128 = search needs } in
+    let z : Sized (s .b) = record { terms = search needs; cells = search needs; changes = search needs } in
     let o = aimed (s .b) at (c .before .before .before .before .before .before .before .before .aim .result) (c .before .before .before .before .before .before .before .before .aim .ensures) (c .before .before .before .before .before .before .before .if1 .left) in
     let f = words-formed (s .b) (on-opened (s .b) at _ o) in
     (place-small (s .b) z at _ o, ready _ _ (f .0) (f .1) (known (c .before .before .before .any-empty .ensures) (c .before .before .if2 .left)))

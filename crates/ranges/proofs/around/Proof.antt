@@ -1,5 +1,5 @@
 use Rattle.paper.specs.Units.{within}
-use Rattle.ranges.proofs.Laws.{both}
+use Rattle.ranges.proofs.Laws.{and-same}
 use borrow.Author.Needs.{needs}
 use Rattle.ranges.proofs.around.Statement.{statement}
 use Rattle.ranges.proofs.around.Tie as tie
@@ -16,7 +16,7 @@ close-requires-3 c κs = search needs
 returns : tie.Need-returns
 unfolding within
 returns c =
-    both (both (c .before .before .close .ensures) (c .before .close2 .ensures)) (c .close3 .ensures)
+    and-same (and-same (c .before .before .close .ensures) (c .before .close2 .ensures)) (c .close3 .ensures)
 
 pub around-spec : {M : Type 1} → statement M
 around-spec = tie.close (tie.spec close-requires close-requires-2 close-requires-3 returns)

@@ -1,5 +1,5 @@
 use mathlib.Core.Path.{_∙_}
-use Rattle.ranges.proofs.Laws.{both, from-zero, range-is}
+use Rattle.ranges.proofs.Laws.{and-same, from-zero, range-is}
 use borrow.Author.Needs.{needs}
 use Rattle.ranges.proofs.in_range.Statement.{statement}
 use Rattle.ranges.proofs.in_range.Tie as tie
@@ -45,7 +45,7 @@ points-ok-requires c κs = search needs
 
 returns : tie.Need-returns
 returns c =
-    both (both (both (both (both (both (c .before .before .before .before .before .before .before .before .before .before .before .from-1-to .ensures) (c .before .before .before .before .before .before .before .before .before .close .ensures ∙ from-zero _ _)) (c .before .before .before .before .before .before .before .from-1-to2 .ensures)) (c .before .before .before .before .before .from-1-to3 .ensures)) (c .before .before .before .from-1-to4 .ensures)) (c .before .from-1-to5 .ensures)) (c .points-ok .ensures)
+    and-same (and-same (and-same (and-same (and-same (and-same (c .before .before .before .before .before .before .before .before .before .before .before .from-1-to .ensures) (c .before .before .before .before .before .before .before .before .before .close .ensures ∙ from-zero _ _)) (c .before .before .before .before .before .before .before .from-1-to2 .ensures)) (c .before .before .before .before .before .from-1-to3 .ensures)) (c .before .before .before .from-1-to4 .ensures)) (c .before .from-1-to5 .ensures)) (c .points-ok .ensures)
     ∙ range-is _
 
 pub in-range-spec : {M : Type 1} → statement M

@@ -1,6 +1,6 @@
 use mathlib.Core.Path.{_∙_}
 use Rattle.image.specs.Lengths.{tripleAt}
-use Rattle.ranges.proofs.Laws.{both, earth}
+use Rattle.ranges.proofs.Laws.{and-same, earth}
 use borrow.Author.Needs.{needs}
 use Rattle.ranges.proofs.points_ok.Statement.{statement}
 use Rattle.ranges.proofs.points_ok.Tie as tie
@@ -35,7 +35,7 @@ around-requires-3 c κs = search needs
 returns : tie.Need-returns
 unfolding tripleAt
 returns c =
-    both (both (c .before .before .around .ensures ∙ earth _ _ _) (c .before .around2 .ensures ∙ earth _ _ _)) (c .around3 .ensures)
+    and-same (and-same (c .before .before .around .ensures ∙ earth _ _ _) (c .before .around2 .ensures ∙ earth _ _ _)) (c .around3 .ensures)
 
 pub points-ok-spec : {M : Type 1} → statement M
 points-ok-spec =

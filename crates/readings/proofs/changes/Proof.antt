@@ -7,7 +7,7 @@ use Rattle.readings.proofs.changes.Statement.{statement}
 use Rattle.readings.proofs.changes.Tie as tie
 
 sized : (s : tie.Start) → Sized (s .args .b)
-sized s = record { terms-12 = search needs; cells-90 = search needs; changes-128 = search needs }
+sized s = record { terms = search needs; cells = search needs; changes = search needs }
 
 in-form-requires : tie.Need-in-form-requires
 in-form-requires c κs = search needs

@@ -15,7 +15,7 @@ use Rattle.readings.proofs.read.Statement.{statement}
 use Rattle.readings.proofs.read.Tie as tie
 
 sized : (s : tie.Start) → Sized (s .args .b)
-sized s = record { terms-12 = search needs; cells-90 = search needs; changes-128 = search needs }
+sized s = record { terms = search needs; cells = search needs; changes = search needs }
 
 at-of : tie.Start → Place
 at-of s = record { series = s .args .series; set = s .args .set; point = s .args .point }

@@ -8,7 +8,7 @@ use Rattle.decimals.specs.Numbers.{line}
 use Rattle.report.specs.Text.{REFUSED, refusalNumbers, refusalText}
 use Rattle.report.specs.Given.{suspect}
 use Rattle.printing.proofs.Rows.{put-as, room-as}
-use Rattle.verdicts.proofs.Pieces.{first-fits, second-fits, both, starts, lens-up}
+use Rattle.verdicts.proofs.Pieces.{first-fits, second-fits, two-put, starts, lens-up}
 use Rattle.report.proofs.Pieces.{numbers-suspect, numbers-other}
 use Rattle.report.proofs.put_refusal.Statement.{statement}
 use Rattle.report.proofs.put_refusal.Tie as tie
@@ -53,7 +53,7 @@ unfolding refusalText ascii
 returns c =
     let a = c .before .before .before .before .before .before .before .before .before .before .before .before .args in
     let s = suspect (a .series) (a .set) (a .quantity) in
-    both (a .out .now) 0 REFUSED (line (refusalNumbers (a .refusal) s)) (starts (c .before .before .before .before .before .before .before .before .before .before .before .before .pre .4)) (c .before .before .before .before .before .before .before .before .put-fixed .ensures)
+    two-put (a .out .now) 0 REFUSED (line (refusalNumbers (a .refusal) s)) (starts (c .before .before .before .before .before .before .before .before .before .before .before .before .pre .4)) (c .before .before .before .before .before .before .before .before .put-fixed .ensures)
     (put-as (ap line (numbers-suspect (a .refusal) s (c .before .before .before .before .before .if1 .taken) ∙ sym (lens-up (a .refusal ∷ a .series ∷ a .set ∷ a .quantity ∷ [])))) (c .before .before .put-numbers .ensures))
 
 add-t23 : tie.Need-add-t23
@@ -78,7 +78,7 @@ unfolding refusalText ascii
 returns-2 c =
     let a = c .before .before .before .before .before .before .before .before .before .before .before .before .args in
     let s = suspect (a .series) (a .set) (a .quantity) in
-    both (a .out .now) 0 REFUSED (line (refusalNumbers (a .refusal) s)) (starts (c .before .before .before .before .before .before .before .before .before .before .before .before .pre .4)) (c .before .before .before .before .before .before .before .before .put-fixed .ensures)
+    two-put (a .out .now) 0 REFUSED (line (refusalNumbers (a .refusal) s)) (starts (c .before .before .before .before .before .before .before .before .before .before .before .before .pre .4)) (c .before .before .before .before .before .before .before .before .put-fixed .ensures)
     (put-as (ap line (numbers-other (a .refusal) s (c .before .before .before .before .before .if1 .left) ∙ sym (lens-up (a .refusal ∷ [])))) (c .before .before .put-numbers2 .ensures))
 
 pub put-refusal-spec : {M : Type 1} → statement M

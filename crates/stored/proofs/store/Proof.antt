@@ -26,7 +26,7 @@ returns : tie.Need-returns
 returns c =
     let s = c .before .before .before .before .before .before .before .before .before .before .before .before .before .before .before .before .before .before .before .before .before .before in
     stored (s .args .register .now) _ _ _ (s .args .a) (s .args .t3)
-    (record { terms-12 = omega (arith, s); cells-90 = omega (arith, s); changes-128 = omega (arith, s) })
+    (record { terms = omega (arith, s); cells = omega (arith, s); changes = omega (arith, s) })
     (s .pre)
     (c .before .before .before .before .before .before .before .before .before .before .before .before .before .before .before .before .store-both .ensures)
     (c .before .before .before .before .before .before .before .before .before .store-at .ensures)

@@ -1,4 +1,4 @@
-use Rattle.stored.proofs.Stored.{both}
+use Rattle.stored.proofs.Stored.{both-stored}
 use borrow.Author.Needs.{needs}
 use Rattle.stored.proofs.store_both.Statement.{statement}
 use Rattle.stored.proofs.store_both.Tie as tie
@@ -18,7 +18,7 @@ same-length c = search needs
 returns : tie.Need-returns
 returns c =
     let s = c .before .before .before .before .before .before .before .before .before .before in
-    both (s .args .bytes .now) _ _ (s .args .at) (s .args .w) (s .args .from .now) (s .pre) (c .before .before .before .before .before .before .paste-word .ensures) (c .before .before .store-at .ensures)
+    both-stored (s .args .bytes .now) _ _ (s .args .at) (s .args .w) (s .args .from .now) (s .pre) (c .before .before .before .before .before .before .paste-word .ensures) (c .before .before .store-at .ensures)
 
 pub store-both-spec : {M : Type 1} → statement M
 store-both-spec =

@@ -5,14 +5,14 @@ use mathlib.Core.Path.{_≡_, ap}
 use borrow.Author.Needs.{needs}
 use Rattle.integers.specs.Sigma.{ΣN}
 use Rattle.paper.specs.Procedure.{ROUNDS, NEARBY}
-use Rattle.sums.specs.Sums.{keptOf}
+use Rattle.sums.specs.Sums.{raisedOf}
 use Rattle.sums.proofs.Laws.{sq-step, sum-next, sum-all}
 use Rattle.sums.proofs.added_up.Statement.{statement}
 use Rattle.sums.proofs.added_up.Tie as tie
 
 abbrev Inv-loop : tie.InvT-loop
 Inv-loop terms cells point axis s₀ q₀ i₀ s q i =
-    (i ≤ ROUNDS) × (s ≡ ΣN i (keptOf terms cells point axis)) × (q ≡ ΣN i (λ (n : ℕ). keptOf terms cells point axis n * keptOf terms cells point axis n)) × (s ≤ 2 * NEARBY * i) × (q ≤ 2 * NEARBY * s)
+    (i ≤ ROUNDS) × (s ≡ ΣN i (raisedOf terms cells point axis)) × (q ≡ ΣN i (λ (n : ℕ). raisedOf terms cells point axis n * raisedOf terms cells point axis n)) × (s ≤ 2 * NEARBY * i) × (q ≤ 2 * NEARBY * s)
 
 abbrev μ-loop : tie.MeasureT-loop
 μ-loop terms cells point axis s₀ q₀ i₀ s q i = ROUNDS - i
@@ -21,17 +21,17 @@ loop-holds : tie.Need-loop-holds Inv-loop μ-loop
 unfolding ΣN
 loop-holds c = omega arith
 
-kept-requires : tie.Need-kept-requires Inv-loop μ-loop
-kept-requires c κs = search needs
+raised-requires : tie.Need-raised-requires Inv-loop μ-loop
+raised-requires c κs = search needs
 
 add-s : tie.Need-add-s Inv-loop μ-loop
 add-s c = search needs
 
 mul-q : tie.Need-mul-q Inv-loop μ-loop
-mul-q c = omega (arith, sq-step (c .kept .result) (c .kept .ensures .1))
+mul-q c = omega (arith, sq-step (c .raised .result) (c .raised .ensures .1))
 
 add-q : tie.Need-add-q Inv-loop μ-loop
-add-q c = omega (arith, sq-step (c .kept .result) (c .kept .ensures .1))
+add-q c = omega (arith, sq-step (c .raised .result) (c .raised .ensures .1))
 
 add-i : tie.Need-add-i Inv-loop μ-loop
 add-i c = search needs
@@ -42,12 +42,12 @@ loop-less c = search needs
 loop-again : tie.Need-loop-again Inv-loop μ-loop
 loop-again c =
     let v = c .before .before .loop .inv in
-    let e = c .kept .ensures in (
+    let e = c .raised .ensures in (
       omega arith,
       sum-next _ _ _ _ (v .1) (e .0),
       sum-next _ _ _ _ (v .2) (ap (λ (u : ℕ). u * u) (e .0)),
       omega (arith, e .1),
-      omega (arith, sq-step (c .kept .result) (e .1)),
+      omega (arith, sq-step (c .raised .result) (e .1)),
     )
 
 returns : tie.Need-returns Inv-loop μ-loop
@@ -62,7 +62,7 @@ added-up-spec =
     Inv-loop
     μ-loop
     loop-holds
-    kept-requires
+    raised-requires
     add-s
     mul-q
     add-q

@@ -15,8 +15,8 @@ add-point c = search needs
 added-up-requires : tie.Need-added-up-requires
 added-up-requires c κs = search needs
 
-kept-requires : tie.Need-kept-requires
-kept-requires c κs = search needs
+raised-requires : tie.Need-raised-requires
+raised-requires c κs = search needs
 
 cast-result : tie.Need-cast-result
 cast-result c = search needs
@@ -30,7 +30,7 @@ cast-result-2 c = search needs
 sub-result : tie.Need-sub-result
 sub-result c =
     let sums = c .before .before .added-up in
-    let u = c .before .kept in
+    let u = c .before .raised in
     let small : sums .result .s < 9223372036854775808 = omega (arith, sums .ensures .s-most) in
     let small' : ROUNDS * u .result < 9223372036854775808 = omega (arith, u .ensures .1) in
     minus-fits (sums .result .s) (ROUNDS * u .result) small small'
@@ -39,7 +39,7 @@ returns : tie.Need-returns
 returns c =
     let s = c .before .before .before in
     let sums = c .before .before .added-up in
-    let u = c .before .kept in
+    let u = c .before .raised in
     let small : sums .result .s < 9223372036854775808 = omega (arith, sums .ensures .s-most) in
     let small' : ROUNDS * u .result < 9223372036854775808 = omega (arith, u .ensures .1) in
     minus-reads (sums .result .s) (ROUNDS * u .result) small small'
@@ -51,7 +51,7 @@ residual-spec =
     (tie.spec
     add-point
     added-up-requires
-    kept-requires
+    raised-requires
     cast-result
     mul-result
     cast-result-2

@@ -2,7 +2,7 @@
 use native.Mathlib.Omega.{arith}
 use native.Mathlib.Nat.{mul-le-mul}
 use borrow.Author.Needs.{needs}
-use Rattle.integers.specs.Sigma.{Q-kept-le}
+use Rattle.integers.specs.Sigma.{Q-raised-le}
 use Rattle.paper.specs.Procedure.{ROUNDS}
 use Rattle.sums.proofs.Laws.{most, Q-words}
 use Rattle.sums.proofs.spread.Statement.{statement}
@@ -22,7 +22,7 @@ mul-result-2 c =
 sub-result : tie.Need-sub-result
 sub-result c =
     let e = c .before .before .added-up .ensures in
-    Q-kept-le ROUNDS _ _ _ (e .s) (e .q)
+    Q-raised-le ROUNDS _ _ _ (e .s) (e .q)
 
 returns : tie.Need-returns
 returns c =

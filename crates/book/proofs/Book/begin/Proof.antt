@@ -16,7 +16,7 @@ given-same : (a b c d e f g h i j k l a′ b′ c′ d′ e′ f′ g′ h′ i�
 given-same a b c d e f g h i j k l a′ b′ c′ d′ e′ f′ g′ h′ i′ j′ k′ l′ p q r s t u v w x y z o = rw (p, q, r, s, t, u, v, w, x, y, z, o)
 
 sized : (s : tie.Start) → Sized (s .args .self)
-sized s = record { terms-12 = search needs; cells-90 = search needs; changes-128 = search needs }
+sized s = record { terms = search needs; cells = search needs; changes = search needs }
 
 terms-of-requires : tie.Need-terms-of-requires
 terms-of-requires c κs = search needs

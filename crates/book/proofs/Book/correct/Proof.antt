@@ -9,7 +9,7 @@ use Rattle.book.proofs.Book.correct.Statement.{statement}
 use Rattle.book.proofs.Book.correct.Tie as tie
 
 sized : (s : tie.Start) → Sized (s .args .self)
-sized s = record { terms-12 = search needs; cells-90 = search needs; changes-128 = search needs }
+sized s = record { terms = search needs; cells = search needs; changes = search needs }
 
 sought-requires : tie.Need-sought-requires
 sought-requires c κs = search needs

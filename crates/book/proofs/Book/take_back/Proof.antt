@@ -12,7 +12,7 @@ use Rattle.book.proofs.Book.take_back.Statement.{statement}
 use Rattle.book.proofs.Book.take_back.Tie as tie
 
 sized : (s : tie.Start) → Sized (s .args .self)
-sized s = record { terms-12 = search needs; cells-90 = search needs; changes-128 = search needs }
+sized s = record { terms = search needs; cells = search needs; changes = search needs }
 
 in-form-requires : tie.Need-in-form-requires
 in-form-requires c κs = search needs

@@ -1,10 +1,10 @@
--- `sums::kept` meets its contract. Assumes nothing.
+-- `sums::raised` meets its contract. Assumes nothing.
 use native.Mathlib.Omega.{arith}
 use mathlib.Core.Path.{refl}
 use borrow.Author.Needs.{needs}
-use Rattle.image.proofs.Ready.{kept-fits, kept-low, kept-small}
-use Rattle.sums.proofs.kept.Statement.{statement}
-use Rattle.sums.proofs.kept.Tie as tie
+use Rattle.image.proofs.Ready.{raised-fits, raised-low, raised-small}
+use Rattle.sums.proofs.raised.Statement.{statement}
+use Rattle.sums.proofs.raised.Tie as tie
 
 sub-from : tie.Need-sub-from
 sub-from c = search needs
@@ -30,7 +30,7 @@ element-copy-out-result c = search needs
 add-result-2 : tie.Need-add-result-2
 add-result-2 c =
     let s = c .before in
-    omega (arith, kept-low (s .args .terms .now) (s .args .cells .now) (s .pre .4) (s .args .point) (s .args .axis) (s .pre .0) (s .pre .1) (s .pre .2) (s .args .i) (s .pre .3))
+    omega (arith, raised-low (s .args .terms .now) (s .args .cells .now) (s .pre .4) (s .args .point) (s .args .axis) (s .pre .0) (s .pre .1) (s .pre .2) (s .args .i) (s .pre .3))
 
 add-result-3 : tie.Need-add-result-3
 add-result-3 c = search needs
@@ -44,15 +44,15 @@ element-copy-out-result-2 c = search needs
 sub-result : tie.Need-sub-result
 sub-result c =
     let s = c .before .before in
-    kept-fits (s .args .terms .now) (s .args .cells .now) (s .pre .4) (s .args .point) (s .args .axis) (s .pre .0) (s .pre .1) (s .pre .2) (s .args .i) (s .pre .3)
+    raised-fits (s .args .terms .now) (s .args .cells .now) (s .pre .4) (s .args .point) (s .args .axis) (s .pre .0) (s .pre .1) (s .pre .2) (s .args .i) (s .pre .3)
 
 returns : tie.Need-returns
 returns c =
     let s = c .before .before in
-    (refl, kept-small (s .args .terms .now) (s .args .cells .now) (s .pre .4) (s .args .point) (s .args .axis) (s .pre .0) (s .pre .1) (s .pre .2) (s .args .i) (s .pre .3))
+    (refl, raised-small (s .args .terms .now) (s .args .cells .now) (s .pre .4) (s .args .point) (s .args .axis) (s .pre .0) (s .pre .1) (s .pre .2) (s .args .i) (s .pre .3))
 
-pub kept-spec : {M : Type 1} → statement M
-kept-spec =
+pub raised-spec : {M : Type 1} → statement M
+raised-spec =
     tie.close
     (tie.spec
     sub-from

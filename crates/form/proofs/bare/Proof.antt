@@ -1,0 +1,25 @@
+use mathlib.Core.Path.{refl}
+use lib.Dec.{eqb}
+use Rattle.ranges.proofs.Laws.{and-same}
+use Rattle.form.specs.Whole.{bare}
+use borrow.Author.Needs.{needs}
+use Rattle.form.proofs.bare.Statement.{statement}
+use Rattle.form.proofs.bare.Tie as tie
+
+zero-from-requires : tie.Need-zero-from-requires
+zero-from-requires c κs = search needs
+
+zero-from-requires-2 : tie.Need-zero-from-requires-2
+zero-from-requires-2 c κs = search needs
+
+zero-from-requires-3 : tie.Need-zero-from-requires-3
+zero-from-requires-3 c κs = search needs
+
+returns : tie.Need-returns
+unfolding bare
+returns c =
+    and-same {a = eqb (c .before .before .before .before .before .before .args .kept) 0} refl (and-same (c .before .before .before .before .zero-from .ensures) (and-same (c .before .before .zero-from2 .ensures) (c .zero-from3 .ensures)))
+
+pub bare-spec : {M : Type 1} → statement M
+bare-spec =
+    tie.close (tie.spec zero-from-requires zero-from-requires-2 zero-from-requires-3 returns)
