@@ -39,21 +39,30 @@ static void begin_far(int shared, int asked, int heard)
     _exit(1);
 }
 
+/* A file under a number above those that the child gives away. */
+static int above(int file)
+{
+    int moved = fcntl(file, F_DUPFD_CLOEXEC, DESK_FILE + 1);
+    must(moved > DESK_FILE, "no number for a file");
+    close(file);
+    return moved;
+}
+
 static void begin(side *s)
 {
-    /* Above the numbers that the child gives away. */
-    int shared = fcntl(memfd_create("desk", MFD_CLOEXEC), F_DUPFD_CLOEXEC, 10);
     int there[2], back[2];
-    must(shared >= 0 && ftruncate(shared, sizeof *s->between) == 0, "no shared memory");
+    int shared = above(memfd_create("desk", MFD_CLOEXEC));
+    must(ftruncate(shared, sizeof *s->between) == 0, "no shared memory");
     s->between = mmap(NULL, sizeof *s->between, PROT_READ | PROT_WRITE, MAP_SHARED, shared, 0);
     must(s->between != MAP_FAILED, "no shared memory");
     must(pipe2(there, O_CLOEXEC) == 0 && pipe2(back, O_CLOEXEC) == 0, "no pipe");
+    int asked = above(there[0]), heard = above(back[1]);
     pid_t child = fork();
     must(child >= 0, "not begun");
     if (child == 0)
-        begin_far(shared, there[0], back[1]);
-    close(there[0]);
-    close(back[1]);
+        begin_far(shared, asked, heard);
+    close(asked);
+    close(heard);
     close(shared);
     s->ask = there[1];
     s->hear = back[0];
