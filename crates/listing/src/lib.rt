@@ -31,7 +31,7 @@ fn on_list(register: &[u8], k: usize) -> bool
 
 // The numbers of the books on the list, rising, and how many they are.
 pub struct Roll {
-    pub numbers: [u8; 16],
+    pub numbers: [u8; Procedure::BOOKS],
     pub count: usize,
 }
 
@@ -40,7 +40,7 @@ pub fn listed(register: &[u8]) -> Roll
     requires { ⌜ inForm (now register) ≡ true ⌝ }
     ensures { λ r. ⌜ (take (r .count) (r .numbers) ≡ passing (sights (meantFrom BOOKS (now (register .entry))))) × (r .count ≤ BOOKS) ⌝ }
 {
-    let mut numbers = [0u8; 16];
+    let mut numbers = [0u8; Procedure::BOOKS];
     let mut count: usize = 0;
     let mut k: usize = 0;
     while k < Procedure::BOOKS {

@@ -59,7 +59,7 @@ fn near_at(t: &[u64; Layout::TERMS], cells: &[u64; Layout::CELLS], place: usize)
 // Every reading near its point, and of each place its mark. A turn takes both points of a set, so that the compiler knows which of them it
 // has at hand.
 pub fn survey(t: &[u64; Layout::TERMS], cells: &[u64; Layout::CELLS], marks: &mut [u64]) -> bool
-    requires { ⌜ length (now marks) ≡ 30 ⌝ }
+    requires { ⌜ length (now marks) ≡ PLACES ⌝ }
     ensures { λ r. ⌜ (r ≡ allNear (termsOf (now (t .entry))) 0 (placesOf (now (cells .entry)))) × Marks (now (marks .exit)) (placesOf (now (cells .entry))) ⌝ }
 {
     let mut near = true;
@@ -78,7 +78,7 @@ pub fn survey(t: &[u64; Layout::TERMS], cells: &[u64; Layout::CELLS], marks: &mu
 pub fn all_near(t: &[u64; Layout::TERMS], cells: &[u64; Layout::CELLS]) -> bool
     ensures { λ r. ⌜ r ≡ allNear (termsOf (now (t .entry))) 0 (placesOf (now (cells .entry))) ⌝ }
 {
-    let mut marks = [0u64; 30];
+    let mut marks = [0u64; Procedure::PLACES];
     survey(t, cells, &mut marks)
 }
 

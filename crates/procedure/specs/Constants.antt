@@ -1,4 +1,4 @@
--- The numbers of the procedure as `constants` gives them, and of the refusals as `refusals` does.
+-- The numbers of the procedure and of the ranges as `constants` gives them, and of the refusals as `refusal_constants` does.
 use Rattle.paper.specs.Procedure.{SERIES, SETS, POINTS, ROUNDS, PLACES, DEGREES-H, DEGREES-XY, BOOKS, KEPT, SPAN, SPREAD, EARTH, NEARBY}
 use Rattle.paper.specs.Refusals.{REGISTER, PLACE, OPEN, TERMS, CLOSED, FILLED, EMPTY, FAR, NOTHING, SHORT, SUSPECT, ZERO, ROOM, FORM}
 use Rattle.procedure.specs.declared.Numbers.{Numbers}

@@ -1,4 +1,4 @@
-// The numbers of the procedure and of the refusals, as constants of the code; and the test of a number that counts from 1.
+// The numbers of the procedure, of the ranges and of the refusals, as constants of the code; and the test of a number that counts from 1.
 ghost use mathlib.Core.Path.{_≡_};
 ghost use Rattle.paper.specs.Units.{oneTo};
 ghost use Rattle.procedure.specs.Constants.{numbers, refusals};

@@ -15,7 +15,7 @@ use procedure::Procedure;
 // A change that can be taken back from places with these marks.
 fn change_ok(
     t: &[u64; Layout::TERMS],
-    marks: &[u64; 30],
+    marks: &[u64; Procedure::PLACES],
     place: u64,
     x: u64,
     y: u64,
@@ -46,7 +46,7 @@ pub fn all_stand(
     ensures { λ r. ⌜ r ≡ (allNear (termsOf (now (t .entry))) 0 (placesOf (now (cells .entry))) && takeable (termsOf (now (t .entry))) (placesOf (now (cells .entry))) (entries kept (now (changes .entry)))) ⌝ }
 {
     let n = kept as usize;
-    let mut marks = [0u64; 30];
+    let mut marks = [0u64; Procedure::PLACES];
     let near = places::survey(t, cells, &mut marks);
     let mut j: usize = 0;
     while j < n {
