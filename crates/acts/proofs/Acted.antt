@@ -8,10 +8,9 @@ use mathlib.Core.Bool.{Bool, true, false, cond, not}
 use mathlib.Core.Option.{Option, none, some, Option·map}
 use mathlib.Core.List.{List}
 use lib.ListN.{length}
-use lib.IntN.{ℤ}
 use borrow.Author.Tests.{ne-eqb}
 use Rattle.paper.specs.Procedure.{BOOKS}
-use Rattle.paper.specs.Units.{Triple, oneTo, inRange, inSheet}
+use Rattle.paper.specs.Units.{oneTo, inRange, inSheet}
 use Rattle.paper.specs.Books as paper
 use Rattle.paper.specs.Calls.{Act, begin, strike, enter, correct, withdraw, takeBack, on, effect, affected}
 use Rattle.paper.specs.Refusals.{REGISTER, PLACE, TERMS, CLOSED}
@@ -96,11 +95,14 @@ module _ (bs : List ℕ) (k : ℕ) (a : Act) (y : Bytes bs) where
         go (suc n) e = sym (form-image-is bs y (f .formed))
         go zero e = put-is (affected (effect a) o) (formed-next a o (form-state bs (f .formed) .every k) e)
 
-  -- what an act does, by what was found
-  pub acted : (b : Book) (s : Step) (r : ℕ) (bs′ : List ℕ) → b ≡ foundOf bs k → s ≡ stepOf a b → (r ≡ turnedAway k (s .refusal)) × (bs′ ≡ unless (turnedAway k (s .refusal)) (placedAt bs k (s .book)) bs) → Calls (on k a) bs r bs′
+  -- what an act does, by what was found and by what the book did, which was told the same act
+  pub acted : (b : Book) (s : Step) (told : Act) (r : ℕ) (bs′ : List ℕ) → b ≡ foundOf bs k → s ≡ stepOf told b → told ≡ a → (r ≡ turnedAway k (s .refusal)) × (bs′ ≡ unless (turnedAway k (s .refusal)) (placedAt bs k (s .book)) bs) → Calls (on k a) bs r bs′
   unfolding called callOn shut says after refusal lowest stepOf refusedAlone turnedAway
-  acted b s r bs′ e es (er, eb) = let d = go (found-way bs k b e) in (er ∙ d .0, d .1)
+  acted b s told r bs′ e et same (er, eb) = let d = go (found-way bs k b e) in (er ∙ d .0, d .1)
     where
+      es : s ≡ stepOf a b
+      es = et ∙ rw same
+
       go : Way bs k b → Calls (on k a) bs (turnedAway k (s .refusal)) bs′
       go (within u (found f)) =
           let z = away-among k (s .refusal) (f .among) in
@@ -112,11 +114,6 @@ module _ (bs : List ℕ) (k : ℕ) (a : Act) (y : Bytes bs) where
       go (without u v) =
           let n : turnedAway k (s .refusal) ≡ REGISTER = rw (es, v) in
           (n ∙ rw (state-out bs u), eb ∙ rw n (rw (state-out bs u)))
-
--- an act with a reading, whose numbers are those given
-pub as-given : (does : Triple → Act) (b : Book) (s : Step) (x y h x′ y′ h′ : ℤ) → x′ ≡ x → y′ ≡ y → h′ ≡ h
-    → s ≡ stepOf (does (record { x = x′; y = y′; h = h′ })) b → s ≡ stepOf (does (record { x = x; y = y; h = h })) b
-as-given does b s x y h x′ y′ h′ ex ey eh e = e ∙ rw (ex, ey, eh)
 
 -- an accepted act's register is of the right length
 pub accepted-length : (bs : List ℕ) (k : ℕ) (a : Act) (b : Book) (s : Step) → b ≡ foundOf bs k → s ≡ stepOf a b → s .refusal ≡ 0 → length bs ≡ LENGTH

@@ -19,7 +19,7 @@ use Rattle.decimals.specs.Given.{Got, Gives, Laid}
 use Rattle.decimals.specs.declared.Read.the-variants.{At}
 use Rattle.decimals.proofs.Steps.{then-got, then-bad, yes-at, on, done}
 use Rattle.lines.proofs.Steps.{ahead-none, ahead-on, ahead-bad, ahead-end}
-use Rattle.fieldfile.specs.Reader.{spot, spots, series, bodies}
+use Rattle.fieldfile.specs.Reader.{IN-SERIES, spot, spots, series, bodies}
 use Rattle.fieldfile.proofs.Exact.{spots-only}
 use Rattle.spots.specs.Given.{Placed}
 
@@ -36,12 +36,12 @@ cells-then cells mid last xs ys base e h p q =
 
 pub record Going (s : List ℕ) (at count : ℕ) (cells₀ : List ℕ) (base : ℕ) (cells : List ℕ) (i left k : ℕ) : Type 0 where
   pub places : Places
-  pub reads : series count (drop at s) ≡ ahead places (spots (10 - k) k left (drop i s))
+  pub reads : series count (drop at s) ≡ ahead places (spots (IN-SERIES - k) k left (drop i s))
   pub row : cells ≡ pasted cells₀ base (cellsOf places)
   pub size : length places ≡ k
   pub from : at ≤ i
   pub to : i ≤ length s
-  pub most : k ≤ 10
+  pub most : k ≤ IN-SERIES
   pub same : length cells ≡ length cells₀
 
 one-cell : (v : Spot) → cellsOf (v ∷ []) ≡ spotWords v
@@ -64,16 +64,16 @@ module _ (s : List ℕ) (at count : ℕ) (cells₀ : List ℕ) (base : ℕ) wher
       }
 
   module _ {cells : List ℕ} {i left k : ℕ} (v : Going s at count cells₀ base cells i left k) where
-    module _ (p : k < 10) where
-      ten : 10 - k ≡ suc (10 - (k + 1))
+    module _ (p : k < IN-SERIES) where
+      ten : IN-SERIES - k ≡ suc (IN-SERIES - (k + 1))
       ten = omega arith
 
-      pub going-on : {last : List ℕ} {m j : ℕ} → base + 30 ≤ length cells₀ → Got (Placed cells (base + 3 * k) last) s i m j (spot k left (drop i s))
+      pub going-on : {last : List ℕ} {m j : ℕ} → base + 3 * IN-SERIES ≤ length cells₀ → Got (Placed cells (base + 3 * k) last) s i m j (spot k left (drop i s))
           → length last ≡ length cells → Going s at count cells₀ base last j m (k + 1)
       unfolding spots
       going-on {last} {m} {j} h g e =
           let w : Spot = g .value .0 in
-          let one : spots (10 - k) k left (drop i s) ≡ ahead (w ∷ []) (spots (10 - (k + 1)) (k + 1) m (drop j s)) =
+          let one : spots (IN-SERIES - k) k left (drop i s) ≡ ahead (w ∷ []) (spots (IN-SERIES - (k + 1)) (k + 1) m (drop j s)) =
           rw ten (then-got _ (g .reads) ∙ rw (add-one k, g .holds .0)) in
           let l : base + 3 * k ≡ base + length (cellsOf (v .places)) = omega (arith, length-cells (v .places), v .size) in
           record {
@@ -93,8 +93,8 @@ module _ (s : List ℕ) (at count : ℕ) (cells₀ : List ℕ) (base : ℕ) wher
       unfolding spots
       going-bad f = ahead-bad (v .places) (v .reads) (rw ten (then-bad _ f))
 
-    module _ (p : 10 ≤ k) where
-      none-left : 10 - k ≡ 0
+    module _ (p : IN-SERIES ≤ k) where
+      none-left : IN-SERIES - k ≡ 0
       none-left = omega arith
 
       pub going-all : left ≡ 0 → Gives (Laid cellsOf cells₀ base cells) s at (At 0 i) (series count (drop at s))
@@ -108,8 +108,8 @@ module _ (s : List ℕ) (at count : ℕ) (cells₀ : List ℕ) (base : ℕ) wher
 
 -- ---- the three bodies
 
-ten-places : (count : ℕ) (l : List ℕ) {xs : Places} {r : List ℕ} → series count l ≡ got xs r → length xs ≡ 10
-ten-places count l e = spots-only 10 0 count l (omega arith) e .1
+ten-places : (count : ℕ) (l : List ℕ) {xs : Places} {r : List ℕ} → series count l ≡ got xs r → length xs ≡ IN-SERIES
+ten-places count l e = spots-only IN-SERIES 0 count l (omega arith) e .1
 
 module _ (s : List ℕ) (at a b c : ℕ) where
   pub no-first : series a (drop at s) ≡ bad → bodies a b c (drop at s) ≡ bad
@@ -129,15 +129,15 @@ module _ (s : List ℕ) (at a b c : ℕ) where
 module _ (s : List ℕ) (at a b c : ℕ) (cells : List ℕ) where
   pub bodies-all : {c1 c2 c3 : List ℕ} {x y z i j n : ℕ} → length cells ≡ CELL-WORDS
       → Got (Laid cellsOf cells 0 c1) s at x i (series a (drop at s))
-      → Got (Laid cellsOf c1 30 c2) s i y j (series b (drop i s))
-      → Got (Laid cellsOf c2 60 c3) s j z n (series c (drop j s))
+      → Got (Laid cellsOf c1 (3 * IN-SERIES) c2) s i y j (series b (drop i s))
+      → Got (Laid cellsOf c2 (2 * (3 * IN-SERIES)) c3) s j z n (series c (drop j s))
       → Gives (Laid cellsOf cells 0 c3) s at (At 0 n) (bodies a b c (drop at s))
   unfolding bodies
   bodies-all {c1} {c2} {c3} e f g h =
       let p = ten-places a (drop at s) (f .reads) in
       let q = ten-places b _ (g .reads) in
       let r = ten-places c _ (h .reads) in
-      let m : c2 ≡ pasted cells 0 (cellsOf (f .value ++ g .value)) = cells-then cells c1 c2 (f .value) (g .value) 30 (omega arith) (omega arith) (f .holds) (g .holds) in
-      let n : length (f .value ++ g .value) ≡ 20 = length-append (f .value) (g .value) ∙ omega arith in
-      let o : c3 ≡ pasted cells 0 (cellsOf (f .value ++ g .value ++ h .value)) = cells-then cells c2 c3 (f .value ++ g .value) (h .value) 60 (omega arith) (omega arith) m (h .holds) in
+      let m : c2 ≡ pasted cells 0 (cellsOf (f .value ++ g .value)) = cells-then cells c1 c2 (f .value) (g .value) (3 * IN-SERIES) (omega arith) (omega arith) (f .holds) (g .holds) in
+      let n : length (f .value ++ g .value) ≡ 2 * IN-SERIES = length-append (f .value) (g .value) ∙ omega arith in
+      let o : c3 ≡ pasted cells 0 (cellsOf (f .value ++ g .value ++ h .value)) = cells-then cells c2 c3 (f .value ++ g .value) (h .value) (2 * (3 * IN-SERIES)) (omega arith) (omega arith) m (h .holds) in
       yes-at (on _ f (on _ g (on _ h (done (rw append-assoc at o) (h .to)))))

@@ -1,20 +1,25 @@
 // The bodies of the three series of a field file, read.
 ghost use mathlib.Core.Path.{_≡_};
-ghost use Prim.Native.Nat.{_+_, _≤_};
+ghost use Prim.Native.Nat.{_+_, _*_, _≤_};
 ghost use lib.ListN.{length, drop};
 ghost use Rattle.image.specs.Layout.{CELL-WORDS};
 ghost use Rattle.image.specs.Places.{cellsOf};
 ghost use Rattle.decimals.specs.Given.{Gives, Laid};
-ghost use Rattle.fieldfile.specs.Reader.{series, bodies};
+ghost use Rattle.fieldfile.specs.Reader.{IN-SERIES, series, bodies};
 use decimals::Read;
 use procedure::Procedure;
 
 // The places of a series.
 const IN_SERIES: usize = Procedure::SETS * Procedure::POINTS;
 
+// Where the cells of the second and of the third series begin.
+const SECOND: usize = 3 * IN_SERIES;
+
+const THIRD: usize = 2 * SECOND;
+
 // A body of so many lines, into the cells from base on.
 fn series_at(s: &[u8], at: usize, count: u64, cells: &mut [u64], base: usize) -> Read
-    requires { ⌜ (at ≤ length (now s)) × (base + 30 ≤ length (now cells)) ⌝ }
+    requires { ⌜ (at ≤ length (now s)) × (base + 3 * IN-SERIES ≤ length (now cells)) ⌝ }
     ensures { λ r. ⌜ Gives (Laid cellsOf (now (cells .entry)) base (now (cells .exit))) (now (s .entry)) at r (series count (drop at (now (s .entry)))) ⌝ }
 {
     let mut i = at;
@@ -39,10 +44,10 @@ pub fn bodies_at(s: &[u8], at: usize, a: u64, b: u64, c: u64, cells: &mut [u64])
     let Read::At(_, i) = series_at(s, at, a, cells, 0) else {
         return Read::Bad;
     };
-    let Read::At(_, j) = series_at(s, i, b, cells, 30) else {
+    let Read::At(_, j) = series_at(s, i, b, cells, SECOND) else {
         return Read::Bad;
     };
-    let Read::At(_, k) = series_at(s, j, c, cells, 60) else {
+    let Read::At(_, k) = series_at(s, j, c, cells, THIRD) else {
         return Read::Bad;
     };
     Read::At(0, k)

@@ -50,8 +50,8 @@ module _ (b : Book) (s : Sized b) (e : bookForm b ≡ true) where
     begun-with b′ z r w = step-done b (begin t) b′ e (rw (meant-closed b z, r)) w
 
 -- terms of any size are opened as their words are
-pub begin-given : (b : Book) (t : Terms) → Sized b → (w : List ℕ) → w ≡ termWordsOr t → (r : Step) → r ≡ stepOf (begin (termsOf w)) b → r ≡ stepOf (begin t) b
-begin-given b t s w ew r er = er ∙ ap (λ (l : List ℕ). stepOf (begin (termsOf l)) b) ew ∙ go (bookForm b) (inRange t) (eqb (b .opened) 0) refl refl refl
+pub begin-given : (b : Book) (t told : Terms) → Sized b → (w : List ℕ) → w ≡ termWordsOr told → told ≡ t → (r : Step) → r ≡ stepOf (begin (termsOf w)) b → r ≡ stepOf (begin t) b
+begin-given b t told s w ew same r er = er ∙ ap (λ (l : List ℕ). stepOf (begin (termsOf l)) b) (ew ∙ ap termWordsOr same) ∙ go (bookForm b) (inRange t) (eqb (b .opened) 0) refl refl refl
   where
     u : Terms
     u = termsOf (termWordsOr t)

@@ -36,9 +36,13 @@ spots zero k zero l = got [] l
 spots zero k (suc left) l = bad
 spots (suc n) k left l = then (spot k left l) (λ v r. ahead (v .0 ∷ []) (spots n (suc k) (v .1) r))
 
+-- the places of a series
+abbrev pub IN-SERIES : ℕ
+IN-SERIES = SETS * POINTS
+
 -- a body of so many lines
 abbrev pub series : ℕ → List ℕ → Parsed Places
-series count l = spots (SETS * POINTS) 0 count l
+series count l = spots IN-SERIES 0 count l
 
 unfoldable pub bodies : (a b c : ℕ) → List ℕ → Parsed Places
 bodies a b c l = then (series a l) (λ xs r. then (series b r) (λ ys t. then (series c t) (λ zs u. got (xs ++ (ys ++ zs)) u)))

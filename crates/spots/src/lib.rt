@@ -6,14 +6,14 @@ ghost use lib.ListN.{length, drop};
 ghost use Rattle.words.specs.Paste.{pasted};
 ghost use Rattle.decimals.specs.Reader.{fixed};
 ghost use Rattle.decimals.specs.Given.{Gives, Nothing};
-ghost use Rattle.fieldfile.specs.Reader.{tag, spot};
+ghost use Rattle.fieldfile.specs.Reader.{IN-SERIES, tag, spot};
 ghost use Rattle.spots.specs.Given.{Placed};
 use decimals::Read;
 use procedure::Procedure;
 
 // The set and the point of place k of a series.
 fn tag_at(s: &[u8], at: usize, k: usize) -> Read
-    requires { ⌜ (at ≤ length (now s)) × (k < 10) ⌝ }
+    requires { ⌜ (at ≤ length (now s)) × (k < IN-SERIES) ⌝ }
     ensures { λ r. ⌜ Gives Nothing (now (s .entry)) at r (fixed (tag k) (drop at (now (s .entry)))) ⌝ }
 {
     let t = [
@@ -37,7 +37,7 @@ fn clear(cells: &mut [u64], base: usize)
 
 // Place k of a series, where so many lines are left; the number that it gives is how many are left then.
 pub fn spot_at(s: &[u8], at: usize, k: usize, left: u64, cells: &mut [u64], base: usize) -> Read
-    requires { ⌜ (at ≤ length (now s)) × (k < 10) × (base + 3 ≤ length (now cells)) ⌝ }
+    requires { ⌜ (at ≤ length (now s)) × (k < IN-SERIES) × (base + 3 ≤ length (now cells)) ⌝ }
     ensures { λ r. ⌜ Gives (Placed (now (cells .entry)) base (now (cells .exit))) (now (s .entry)) at r (spot k left (drop at (now (s .entry)))) ⌝ }
 {
     if left == 0 {

@@ -22,6 +22,7 @@ elements-take i (suc n) l d h = rw (drop-cons l i d (omega arith), elements-take
 pub elements-all : {A : Type 0} (n : ℕ) (l : List A) (d : A) → length l ≡ n → elements 0 n l d ≡ l
 elements-all n l d e = elements-take 0 n l d (omega arith) ∙ take-all n l (omega arith)
 
+-- two facts as one
 pub also : {A B : Type 0} → A → B → A × B
 also a b = (a, b)
 

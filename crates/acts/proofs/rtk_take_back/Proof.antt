@@ -1,12 +1,12 @@
+use Rattle.words.proofs.Words.{Bytes}
 use native.Mathlib.Omega.{arith}
-use Rattle.paper.specs.Calls.{Act, takeBack}
 use Rattle.acts.proofs.Acted.{accepted-length, acted}
 use borrow.Author.Needs.{needs}
 use Rattle.acts.proofs.rtk_take_back.Statement.{statement}
 use Rattle.acts.proofs.rtk_take_back.Tie as tie
 
-abbrev does : tie.Start → Act
-does s = takeBack
+bytes : (c : tie.After-slice-known) → Bytes (c .before .args .register .now)
+bytes c i = omega (arith, c .slice-known .given i)
 
 found-requires : tie.Need-found-requires
 found-requires c κs = search needs
@@ -15,18 +15,15 @@ take-back-requires : tie.Need-take-back-requires
 take-back-requires c κs = search needs
 
 put-back-requires : tie.Need-put-back-requires
-put-back-requires c κs =
-    let s = c .before .before .before .before .before in
-    accepted-length (s .args .register .now) (s .args .book) _ _ _ (c .before .before .found .ensures) (c .before .take-back .ensures)
+put-back-requires c κs = search (accepted-length, needs)
 
 same-length : tie.Need-same-length
 same-length c = search needs
 
 returns : tie.Need-returns
 returns c =
-    let s = c .before .before .before .before .before .before .before .before in
-    let e = c .before .before .before .before .take-back .ensures in
-    acted (s .args .register .now) (s .args .book) (does s) (λ i. omega (arith, c .before .before .before .before .before .before .before .slice-known .given i)) _ _ _ _ (c .before .before .before .before .before .found .ensures) e (c .before .before .put-back .ensures)
+    let after-take-back : tie.After-take-back = search in
+    acted _ _ _ (bytes (search)) _ _ _ _ _ (after-take-back .before .found .ensures) (after-take-back .take-back .ensures) (search needs) (c .before .before .put-back .ensures)
 
 pub rtk-take-back-spec : {M : Type 1} → statement M
 rtk-take-back-spec =

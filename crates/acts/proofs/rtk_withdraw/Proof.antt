@@ -1,12 +1,12 @@
+use Rattle.words.proofs.Words.{Bytes}
 use native.Mathlib.Omega.{arith}
-use Rattle.paper.specs.Calls.{Act, withdraw}
 use Rattle.acts.proofs.Acted.{accepted-length, acted}
 use borrow.Author.Needs.{needs}
 use Rattle.acts.proofs.rtk_withdraw.Statement.{statement}
 use Rattle.acts.proofs.rtk_withdraw.Tie as tie
 
-abbrev does : tie.Start → Act
-does s = withdraw (record { series = s .args .series; set = s .args .set; point = s .args .point })
+bytes : (c : tie.After-slice-known) → Bytes (c .before .args .register .now)
+bytes c i = omega (arith, c .slice-known .given i)
 
 found-requires : tie.Need-found-requires
 found-requires c κs = search needs
@@ -15,18 +15,15 @@ withdraw-requires : tie.Need-withdraw-requires
 withdraw-requires c κs = search needs
 
 put-back-requires : tie.Need-put-back-requires
-put-back-requires c κs =
-    let s = c .before .before .before .before .before in
-    accepted-length (s .args .register .now) (s .args .book) _ _ _ (c .before .before .found .ensures) (c .before .withdraw .ensures)
+put-back-requires c κs = search (accepted-length, needs)
 
 same-length : tie.Need-same-length
 same-length c = search needs
 
 returns : tie.Need-returns
 returns c =
-    let s = c .before .before .before .before .before .before .before .before in
-    let e = c .before .before .before .before .withdraw .ensures in
-    acted (s .args .register .now) (s .args .book) (does s) (λ i. omega (arith, c .before .before .before .before .before .before .before .slice-known .given i)) _ _ _ _ (c .before .before .before .before .before .found .ensures) e (c .before .before .put-back .ensures)
+    let after-withdraw : tie.After-withdraw = search in
+    acted _ _ _ (bytes (search)) _ _ _ _ _ (after-withdraw .before .found .ensures) (after-withdraw .withdraw .ensures) (search needs) (c .before .before .put-back .ensures)
 
 pub rtk-withdraw-spec : {M : Type 1} → statement M
 rtk-withdraw-spec =

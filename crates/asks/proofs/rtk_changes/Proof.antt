@@ -15,8 +15,7 @@ turned-away-requires c κs = search needs
 
 returns : tie.Need-returns
 returns c =
-    let s = c .before .before .before .before in
-    count-asked (s .args .register .now) (s .args .book) changes counts _ (c .before .before .found .ensures) _ _ (c .before .changes .ensures) (c .turned-away .ensures)
+    count-asked _ _ changes counts _ (c .before .before .found .ensures) _ _ (c .before .changes .ensures) (c .turned-away .ensures)
 
 pub rtk-changes-spec : {M : Type 1} → statement M
 rtk-changes-spec = tie.close (tie.spec found-requires changes-requires turned-away-requires returns)

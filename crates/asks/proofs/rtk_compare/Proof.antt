@@ -24,8 +24,8 @@ plainly-requires c κs = search needs
 
 returns : tie.Need-returns
 returns c =
-    let s = c .before .before .before .before .before .before .before in
-    c .plainly .ensures ∙ comparison-asked (s .args .register .now) (s .args .first) (s .args .second) (s .args .axis) _ _ (c .before .before .before .before .before .found .ensures) (c .before .before .before .before .picked .ensures) _ _ _ (c .before .before .before .compare .ensures) (c .before .before .turned-away .ensures) (c .before .turned-away2 .ensures)
+    let after-picked : tie.After-picked = search in
+    c .plainly .ensures ∙ comparison-asked _ _ _ _ _ _ (after-picked .before .found .ensures) (after-picked .picked .ensures) _ _ _ (c .before .before .before .compare .ensures) (c .before .before .turned-away .ensures) (c .before .turned-away2 .ensures)
 
 pub rtk-compare-spec : {M : Type 1} → statement M
 rtk-compare-spec =

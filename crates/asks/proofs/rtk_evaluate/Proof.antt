@@ -19,8 +19,7 @@ plain-requires c κs = search needs
 
 returns : tie.Need-returns
 returns c =
-    let s = c .before .before .before .before .before in
-    c .plain .ensures ∙ evaluation-asked (s .args .register .now) (s .args .book) evaluate evaluates _ (c .before .before .before .found .ensures) _ _ (c .before .before .evaluate .ensures) (c .before .turned-away .ensures)
+    c .plain .ensures ∙ evaluation-asked _ _ evaluate evaluates _ (c .before .before .before .found .ensures) _ _ (c .before .before .evaluate .ensures) (c .before .turned-away .ensures)
 
 pub rtk-evaluate-spec : {M : Type 1} → statement M
 rtk-evaluate-spec =

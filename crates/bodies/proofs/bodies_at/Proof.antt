@@ -20,12 +20,14 @@ same-length c = search needs
 
 returns : tie.Need-returns
 returns c =
-    let a = c .before .before .before .before .before .before .before .before .args in
-    not-at (no-first (a .s .now) (a .at) (a .a) (a .b) (a .c) (c .before .before .before .before .series-at .ensures .fail (c .enum-told .given .1)))
+    let after-series-at : tie.After-series-at = search in
+    let start : tie.Start = search in
+    not-at (no-first _ (start .args .at) _ _ _ (after-series-at .series-at .ensures .fail (c .enum-told .given .1)))
 
 series-at-requires-2 : tie.Need-series-at-requires-2
 series-at-requires-2 c κs =
-    (c .before .before .before .before .before .before .series-at .ensures .good _ _ (c .before .before .i .given .1) .to, search needs)
+    let after-series-at : tie.After-series-at = search in
+    (after-series-at .series-at .ensures .good _ _ (c .before .before .i .given .1) .to, search needs)
 
 enum-known-j : tie.Need-enum-known-j
 enum-known-j c = search needs
@@ -38,13 +40,16 @@ same-length-2 c = search needs
 
 returns-2 : tie.Need-returns-2
 returns-2 c =
-    let a = c .before .before .before .before .before .before .before .before .before .before .before .before .before .before .before .args in
-    let f = c .before .before .before .before .before .before .before .before .before .before .before .series-at .ensures .good _ _ (c .before .before .before .before .before .before .before .i .given .1) in
-    not-at (no-second (a .s .now) (a .at) (a .a) (a .b) (a .c) f (c .before .before .before .before .series-at2 .ensures .fail (c .enum-told2 .given .1)))
+    let after-series-at2 : tie.After-series-at2 = search in
+    let after-i : tie.After-i = search in
+    let after-series-at : tie.After-series-at = search in
+    let f = after-series-at .series-at .ensures .good _ _ (after-i .i .given .1) in
+    not-at (no-second _ _ _ _ _ f (after-series-at2 .series-at2 .ensures .fail (c .enum-told2 .given .1)))
 
 series-at-requires-3 : tie.Need-series-at-requires-3
 series-at-requires-3 c κs =
-    (c .before .before .before .before .before .before .series-at2 .ensures .good _ _ (c .before .before .j .given .1) .to, search needs)
+    let after-series-at2 : tie.After-series-at2 = search in
+    (after-series-at2 .series-at2 .ensures .good _ _ (c .before .before .j .given .1) .to, search needs)
 
 enum-known-k : tie.Need-enum-known-k
 enum-known-k c = search needs
@@ -57,21 +62,30 @@ same-length-3 c = search needs
 
 returns-3 : tie.Need-returns-3
 returns-3 c =
-    let a = c .before .before .before .before .before .before .before .before .before .before .before .before .before .before .before .before .before .before .before .before .before .before .args in
-    let f = c .before .before .before .before .before .before .before .before .before .before .before .before .before .before .before .before .before .before .series-at .ensures .good _ _ (c .before .before .before .before .before .before .before .before .before .before .before .before .before .before .i .given .1) in
-    let g = c .before .before .before .before .before .before .before .before .before .before .before .series-at2 .ensures .good _ _ (c .before .before .before .before .before .before .before .j .given .1) in
-    not-at (no-third (a .s .now) (a .at) (a .a) (a .b) (a .c) f g (c .before .before .before .before .series-at3 .ensures .fail (c .enum-told3 .given .1)))
+    let after-series-at3 : tie.After-series-at3 = search in
+    let after-j : tie.After-j = search in
+    let after-series-at2 : tie.After-series-at2 = search in
+    let after-i : tie.After-i = search in
+    let after-series-at : tie.After-series-at = search in
+    let f = after-series-at .series-at .ensures .good _ _ (after-i .i .given .1) in
+    let g = after-series-at2 .series-at2 .ensures .good _ _ (after-j .j .given .1) in
+    not-at (no-third _ _ _ _ _ f g (after-series-at3 .series-at3 .ensures .fail (c .enum-told3 .given .1)))
 
 same-length-4 : tie.Need-same-length-4
 same-length-4 c = search needs
 
 returns-4 : tie.Need-returns-4
 returns-4 c =
-    let a = c .before .before .before .before .before .before .before .before .before .before .before .before .before .before .before .before .before .before .before .before .before .before .before .args in
-    let f = c .before .before .before .before .before .before .before .before .before .before .before .before .before .before .before .before .before .before .before .series-at .ensures .good _ _ (c .before .before .before .before .before .before .before .before .before .before .before .before .before .before .before .i .given .1) in
-    let g = c .before .before .before .before .before .before .before .before .before .before .before .before .series-at2 .ensures .good _ _ (c .before .before .before .before .before .before .before .before .j .given .1) in
-    let h = c .before .before .before .before .before .series-at3 .ensures .good _ _ (c .before .k .given .1) in
-    bodies-all (a .s .now) (a .at) (a .a) (a .b) (a .c) (a .cells .now) (c .before .before .before .before .before .before .before .before .before .before .before .before .before .before .before .before .before .before .before .before .before .before .before .pre .1) f g h
+    let after-series-at3 : tie.After-series-at3 = search in
+    let after-j : tie.After-j = search in
+    let after-series-at2 : tie.After-series-at2 = search in
+    let after-i : tie.After-i = search in
+    let after-series-at : tie.After-series-at = search in
+    let start : tie.Start = search in
+    let f = after-series-at .series-at .ensures .good _ _ (after-i .i .given .1) in
+    let g = after-series-at2 .series-at2 .ensures .good _ _ (after-j .j .given .1) in
+    let h = after-series-at3 .series-at3 .ensures .good _ _ (c .before .k .given .1) in
+    bodies-all _ _ _ _ _ _ (start .pre .1) f g h
 
 pub bodies-at-spec : {M : Type 1} → statement M
 bodies-at-spec =

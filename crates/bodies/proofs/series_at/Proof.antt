@@ -3,6 +3,7 @@
 use Prim.Native.Nat.{_-_}
 use borrow.Author.Needs.{needs}
 use Rattle.decimals.proofs.Steps.{not-at}
+use Rattle.fieldfile.specs.Reader.{IN-SERIES}
 use Rattle.bodies.proofs.Steps.{Going, going-none, going-on, going-bad, going-all, going-more}
 use Rattle.bodies.proofs.series_at.Statement.{statement}
 use Rattle.bodies.proofs.series_at.Tie as tie
@@ -13,11 +14,10 @@ Inv-loop s at count cells₀ base i₀ left₀ k₀ cells i left k =
 
 abbrev μ-loop : tie.MeasureT-loop
 μ-loop s at count cells₀ base i₀ left₀ k₀ cells i left k =
-    10 - k
+    IN-SERIES - k
 
 loop-holds : tie.Need-loop-holds Inv-loop μ-loop
-loop-holds c =
-    let a = c .before .before .args in going-none (a .s .now) (a .at) (a .count) (a .cells .now) (a .base) (search needs)
+loop-holds c = search (going-none, needs)
 
 mul-spot-at : tie.Need-mul-spot-at Inv-loop μ-loop
 mul-spot-at c = search needs
@@ -39,8 +39,9 @@ same-length c = search needs
 
 returns : tie.Need-returns Inv-loop μ-loop
 returns c =
-    let a = c .before .before .before .before .before .before .before .before .before .before .args in
-    not-at (going-bad (a .s .now) (a .at) (a .count) (a .cells .now) (a .base) (c .before .before .before .before .before .before .before .loop .inv) (search needs) (c .before .before .before .before .spot-at .ensures .fail (c .enum-told .given .1)))
+    let after-spot-at : tie.After-spot-at Inv-loop μ-loop = search in
+    let at-loop : tie.At-loop Inv-loop μ-loop = search in
+    not-at (going-bad _ _ _ _ _ (at-loop .loop .inv) (search needs) (after-spot-at .spot-at .ensures .fail (c .enum-told .given .1)))
 
 add-k : tie.Need-add-k Inv-loop μ-loop
 add-k c = search needs
@@ -50,24 +51,23 @@ loop-less c = search needs
 
 loop-again : tie.Need-loop-again Inv-loop μ-loop
 loop-again c =
-    let a = c .before .before .before .before .before .before .before .before .before .before .before .args in
-    going-on (a .s .now) (a .at) (a .count) (a .cells .now) (a .base) (c .before .before .before .before .before .before .before .before .loop .inv) (search needs) (search needs) (c .before .before .before .before .before .spot-at .ensures .good _ _ (c .before .m .given .1)) (search needs)
+    let after-spot-at : tie.After-spot-at Inv-loop μ-loop = search in
+    let at-loop : tie.At-loop Inv-loop μ-loop = search in
+    going-on _ _ _ _ _ (at-loop .loop .inv) (search needs) (search needs) (after-spot-at .spot-at .ensures .good _ _ (c .before .m .given .1)) (search needs)
 
 same-length-2 : tie.Need-same-length-2 Inv-loop μ-loop
 same-length-2 c = search needs
 
 returns-2 : tie.Need-returns-2 Inv-loop μ-loop
 returns-2 c =
-    let a = c .before .before .before .before .before .args in
-    going-all (a .s .now) (a .at) (a .count) (a .cells .now) (a .base) (c .before .before .loop .inv) (search needs) (search needs)
+    going-all _ _ _ _ _ (c .before .before .loop .inv) (search needs) (search needs)
 
 same-length-3 : tie.Need-same-length-3 Inv-loop μ-loop
 same-length-3 c = search needs
 
 returns-3 : tie.Need-returns-3 Inv-loop μ-loop
 returns-3 c =
-    let a = c .before .before .before .before .before .args in
-    not-at (going-more (a .s .now) (a .at) (a .count) (a .cells .now) (a .base) (c .before .before .loop .inv) (search needs) (c .if1 .left))
+    not-at (going-more _ _ _ _ _ (c .before .before .loop .inv) (search needs) (c .if1 .left))
 
 pub series-at-spec : {M : Type 1} → statement M
 series-at-spec =

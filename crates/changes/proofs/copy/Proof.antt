@@ -41,7 +41,7 @@ loop-again c =
     let h : c .before .before .loop .i < length (s .args .from .now) = omega arith in (
       omega arith,
       simp length-set (omega arith),
-      rw (c .before .before .loop .inv .2) (copy-turn (s .args .from .now) (s .args .out .now) (c .before .before .loop .i) h (s .pre)),
+      rw (c .before .before .loop .inv .2) (copy-turn (s .args .from .now) _ _ h (s .pre)),
     )
 
 same-length : tie.Need-same-length Inv-loop μ-loop

@@ -32,9 +32,9 @@ copy-requires c κs = search needs
 returns : tie.Need-returns
 unfolding popped
 returns c =
-    let s = c .before .before .before .before .before in
-    let l : length (drop 4 (s .args .t1)) ≤ (CHANGE-WORDS - 4) = simp length-drop (omega (arith, s)) in
-    simp (c .before .copy .ensures, take-all (CHANGE-WORDS - 4) (drop 4 (s .args .t1)) l)
+    let start : tie.Start = search in
+    let l : length (drop 4 (start .args .t1)) ≤ (CHANGE-WORDS - 4) = simp length-drop (omega (arith, start)) in
+    simp (c .before .copy .ensures, take-all (CHANGE-WORDS - 4) (drop 4 (start .args .t1)) l)
 
 pub pop-spec : {M : Type 1} → statement M
 pop-spec =

@@ -37,7 +37,9 @@ copy-requires : tie.Need-copy-requires
 copy-requires c κs = search needs
 
 returns : tie.Need-returns
-returns c = let s = c .before .before .before .before .before in pushed-eq (s .args .t1) _ _ _ _ _ (c .before .copy .ensures)
+returns c =
+    let start : tie.Start = search in
+    pushed-eq (start .args .t1) _ _ _ _ _ (c .before .copy .ensures)
 
 pub push-spec : {M : Type 1} → statement M
 push-spec =

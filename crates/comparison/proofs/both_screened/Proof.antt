@@ -16,7 +16,8 @@ not-compared-requires c κs = search needs
 
 returns : tie.Need-returns
 returns c =
-    c .not-compared .ensures ∙ first-is _ _ _ _ _ _ (sym (c .before .before .one .given .1) ∙ c .before .before .before .before .first-suspect .ensures)
+    let after-first-suspect : tie.After-first-suspect = search in
+    c .not-compared .ensures ∙ first-is _ _ _ _ _ _ (sym (c .before .before .one .given .1) ∙ after-first-suspect .first-suspect .ensures)
 
 enum-told : tie.Need-enum-told
 enum-told c = search needs
@@ -32,7 +33,9 @@ not-compared-requires-2 c κs = search needs
 
 returns-2 : tie.Need-returns-2
 returns-2 c =
-    c .not-compared2 .ensures ∙ second-is _ _ _ _ _ _ (sym (c .before .before .before .before .before .enum-told .given .1) ∙ c .before .before .before .before .before .before .before .first-suspect .ensures) (sym (c .before .before .other .given .1) ∙ c .before .before .before .before .first-suspect2 .ensures)
+    let after-first-suspect2 : tie.After-first-suspect2 = search in
+    let after-first-suspect : tie.After-first-suspect = search in
+    c .not-compared2 .ensures ∙ second-is _ _ _ _ _ _ (sym (after-first-suspect2 .before .enum-told .given .1) ∙ after-first-suspect .first-suspect .ensures) (sym (c .before .before .other .given .1) ∙ after-first-suspect2 .first-suspect2 .ensures)
 
 enum-told-2 : tie.Need-enum-told-2
 enum-told-2 c = search needs
@@ -48,7 +51,9 @@ by-sums-requires c κs = search needs
 
 returns-3 : tie.Need-returns-3
 returns-3 c =
-    c .by-sums .ensures ∙ both-clear _ _ _ _ _ _ _ (sym (c .before .before .before .before .before .before .enum-told .given .1) ∙ c .before .before .before .before .before .before .before .before .first-suspect .ensures) (sym (c .before .before .before .enum-told2 .given .1) ∙ c .before .before .before .before .before .first-suspect2 .ensures) (c .before .before .total .ensures .0) (c .before .total2 .ensures .0)
+    let after-first-suspect2 : tie.After-first-suspect2 = search in
+    let after-first-suspect : tie.After-first-suspect = search in
+    c .by-sums .ensures ∙ both-clear _ _ _ _ _ _ _ (sym (after-first-suspect2 .before .enum-told .given .1) ∙ after-first-suspect .first-suspect .ensures) (sym (c .before .before .before .enum-told2 .given .1) ∙ after-first-suspect2 .first-suspect2 .ensures) (c .before .before .total .ensures .0) (c .before .total2 .ensures .0)
 
 pub both-screened-spec : {M : Type 1} → statement M
 both-screened-spec =

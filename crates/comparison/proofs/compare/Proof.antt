@@ -26,18 +26,18 @@ not-compared-requires-2 c κs = search needs
 
 returns-2 : tie.Need-returns-2
 returns-2 c =
-    let p = c .before .before .before .before .before .pre in
-    c .not-compared2 .ensures ∙ short-second _ _ _ _ _ (p .0 .0) (p .0 .1) (known (c .before .before .before .before .any-empty .ensures) (c .before .before .before .if1 .left)) (known (c .before .before .any-empty2 .ensures) (c .before .if2 .taken))
+    let after-any-empty : tie.After-any-empty = search in
+    let p = after-any-empty .before .pre in
+    c .not-compared2 .ensures ∙ short-second _ _ _ _ _ (p .0 .0) (p .0 .1) (known (after-any-empty .any-empty .ensures) (c .before .before .before .if1 .left)) (known (c .before .before .any-empty2 .ensures) (c .before .if2 .taken))
 
 both-screened-requires : tie.Need-both-screened-requires
-both-screened-requires c κs =
-    let p = c .before .before .before .before .pre in
-    (ready _ _ (p .1 .0) (p .1 .1) (known (c .before .before .before .any-empty .ensures) (c .before .before .if1 .left)), ready _ _ (p .2 .0) (p .2 .1) (known (c .before .any-empty2 .ensures) (c .if2 .left)))
+both-screened-requires c κs = search (known, ready, needs)
 
 returns-3 : tie.Need-returns-3
 returns-3 c =
-    let p = c .before .before .before .before .before .pre in
-    c .both-screened .ensures ∙ both-full _ _ _ _ _ (p .0 .0) (p .0 .1) (known (c .before .before .before .before .any-empty .ensures) (c .before .before .before .if1 .left)) (known (c .before .before .any-empty2 .ensures) (c .before .if2 .left))
+    let after-any-empty : tie.After-any-empty = search in
+    let p = after-any-empty .before .pre in
+    c .both-screened .ensures ∙ both-full _ _ _ _ _ (p .0 .0) (p .0 .1) (known (after-any-empty .any-empty .ensures) (c .before .before .before .if1 .left)) (known (c .before .before .any-empty2 .ensures) (c .before .if2 .left))
 
 pub compare-spec : {M : Type 1} → statement M
 compare-spec =

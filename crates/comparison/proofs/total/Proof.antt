@@ -8,14 +8,10 @@ sums-requires : tie.Need-sums-requires
 sums-requires c κs = search needs
 
 returns : tie.Need-returns
-returns c =
-    let e = c .before .sums .ensures in
-    (total-xy _ _ _ _ (e .0) (c .if1 .taken), e .1 .p)
+returns c = search (total-xy, needs)
 
 returns-2 : tie.Need-returns-2
-returns-2 c =
-    let e = c .before .sums .ensures in
-    (total-h _ _ _ _ (e .0) (c .if1 .left), e .1 .qh)
+returns-2 c = search (total-h, needs)
 
 pub total-spec : {M : Type 1} → statement M
 total-spec = tie.close (tie.spec sums-requires returns returns-2)

@@ -24,7 +24,8 @@ returns c =
 
 numbers-at-requires : tie.Need-numbers-at-requires
 numbers-at-requires c κs =
-    (c .before .before .before .before .table-at .ensures .good _ _ _ _ (c .before .before .a .given .1) .1, search needs)
+    let after-table-at : tie.After-table-at = search in
+    (after-table-at .table-at .ensures .good _ _ _ _ (c .before .before .a .given .1) .1, search needs)
 
 enum-known-j : tie.Need-enum-known-j
 enum-known-j c = search needs
@@ -38,12 +39,15 @@ same-length c = search needs
 returns-2 : tie.Need-returns-2
 unfolding whole
 returns-2 c =
-    let e = c .before .before .before .before .before .before .before .before .before .table-at .ensures .good _ _ _ _ (c .before .before .before .before .before .before .before .a .given .1) in
-    not-formed (then-got _ (e .0) ∙ then-bad _ (c .before .before .before .before .numbers-at .ensures .fail (c .enum-told2 .given .1)))
+    let after-numbers-at : tie.After-numbers-at = search in
+    let after-a : tie.After-a = search in
+    let e = after-a .before .before .table-at .ensures .good _ _ _ _ (after-a .a .given .1) in
+    not-formed (then-got _ (e .0) ∙ then-bad _ (after-numbers-at .numbers-at .ensures .fail (c .enum-told2 .given .1)))
 
 bodies-at-requires : tie.Need-bodies-at-requires
 bodies-at-requires c κs =
-    (c .before .before .before .before .before .before .numbers-at .ensures .good _ _ (c .before .before .j .given .1) .to, search needs)
+    let after-numbers-at : tie.After-numbers-at = search in
+    (after-numbers-at .numbers-at .ensures .good _ _ (c .before .before .j .given .1) .to, search needs)
 
 enum-known-k : tie.Need-enum-known-k
 enum-known-k c = search needs
@@ -59,9 +63,13 @@ same-length-3 c = search needs
 
 returns-3 : tie.Need-returns-3
 returns-3 c =
-    let e = c .before .before .before .before .before .before .before .before .before .before .before .before .before .before .before .before .table-at .ensures .good _ _ _ _ (c .before .before .before .before .before .before .before .before .before .before .before .before .before .before .a .given .1) in
-    let g = c .before .before .before .before .before .before .before .before .before .before .before .numbers-at .ensures .good _ _ (c .before .before .before .before .before .before .before .j .given .1) in
-    not-formed (no-bodies _ (e .0) g (c .before .before .before .before .bodies-at .ensures .fail (c .enum-told3 .given .1)))
+    let after-bodies-at : tie.After-bodies-at = search in
+    let after-j : tie.After-j = search in
+    let after-numbers-at : tie.After-numbers-at = search in
+    let after-a : tie.After-a = search in
+    let e = after-a .before .before .table-at .ensures .good _ _ _ _ (after-a .a .given .1) in
+    let g = after-numbers-at .numbers-at .ensures .good _ _ (after-j .j .given .1) in
+    not-formed (no-bodies _ (e .0) g (after-bodies-at .bodies-at .ensures .fail (c .enum-told3 .given .1)))
 
 same-length-4 : tie.Need-same-length-4
 same-length-4 c = search needs
@@ -71,11 +79,15 @@ same-length-5 c = search needs
 
 returns-4 : tie.Need-returns-4
 returns-4 c =
-    let a = c .before .before .before .before .before .before .before .before .before .before .before .before .before .before .before .before .before .before .before .before .before .args in
-    let e = c .before .before .before .before .before .before .before .before .before .before .before .before .before .before .before .before .before .table-at .ensures .good _ _ _ _ (c .before .before .before .before .before .before .before .before .before .before .before .before .before .before .before .a .given .1) in
-    let g = c .before .before .before .before .before .before .before .before .before .before .before .before .numbers-at .ensures .good _ _ (c .before .before .before .before .before .before .before .before .j .given .1) in
-    let h = c .before .before .before .before .before .bodies-at .ensures .good _ _ (c .before .k .given .1) in
-    formed-by (a .s .now) (e .0) (a .terms .now) _ (a .cells .now) _ g h (c .before .before .before .before .before .before .before .before .before .before .before .before .before .before .before .before .before .before .before .before .before .pre .0) (c .before .before .before .before .before .before .before .before .before .before .before .before .before .before .before .before .before .before .before .before .before .pre .1)
+    let after-bodies-at : tie.After-bodies-at = search in
+    let after-j : tie.After-j = search in
+    let after-numbers-at : tie.After-numbers-at = search in
+    let after-a : tie.After-a = search in
+    let start : tie.Start = search in
+    let e = after-a .before .before .table-at .ensures .good _ _ _ _ (after-a .a .given .1) in
+    let g = after-numbers-at .numbers-at .ensures .good _ _ (after-j .j .given .1) in
+    let h = after-bodies-at .bodies-at .ensures .good _ _ (c .before .k .given .1) in
+    formed-by _ (e .0) _ _ _ _ g h (start .pre .0) (start .pre .1)
 
 pub formed-spec : {M : Type 1} → statement M
 formed-spec =

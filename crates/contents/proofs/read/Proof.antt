@@ -7,8 +7,7 @@ use Rattle.contents.proofs.read.Statement.{statement}
 use Rattle.contents.proofs.read.Tie as tie
 
 returns : tie.Need-returns
-returns c =
-    let bs = c .before .before .args .file .now in holds-none bs (read-long bs (c .if1 .taken))
+returns c = search (read-long, holds-none, needs)
 
 slice-aggregate-formed : tie.Need-slice-aggregate-formed
 slice-aggregate-formed c = search needs
@@ -20,12 +19,12 @@ formed-requires : tie.Need-formed-requires
 formed-requires c κs = search needs
 
 returns-2 : tie.Need-returns-2
-returns-2 c =
-    let bs = c .before .before .before .before .before .before .before .before .args .file .now in holds-some bs (c .before .before .before .before .before .before .if1 .left) (c .before .before .before .formed .ensures) (c .if2 .taken)
+returns-2 c = search (holds-some, needs)
 
 returns-3 : tie.Need-returns-3
 returns-3 c =
-    let bs = c .before .before .before .before .before .before .before .before .args .file .now in holds-none bs (read-bad bs (c .before .before .before .before .before .before .if1 .left) (c .before .before .before .formed .ensures .fail (c .if2 .left)))
+    let else1 : tie.Else1 = search in
+    let bs = else1 .before .before .args .file .now in holds-none bs (read-bad bs (else1 .if1 .left) (c .before .before .before .formed .ensures .fail (c .if2 .left)))
 
 pub read-spec : {M : Type 1} → statement M
 read-spec =

@@ -39,22 +39,13 @@ wide-requires : tie.Need-wide-requires Inv-loop μ-loop
 wide-requires c κs = search needs
 
 returns : tie.Need-returns Inv-loop μ-loop
-returns c =
-    let l = c .before .before .before .before .loop in
-    let s = c .before .before .before .before .before .before .args .s .now in
-    stop s _ (l .m) (l .i) (l .inv) (run-low s (l .i) (c .before .wide .result) (search needs) (c .before .wide .ensures .0) (l .m) (search needs))
+returns c = search (run-low, stop, needs)
 
 returns-2 : tie.Need-returns-2 Inv-loop μ-loop
-returns-2 c =
-    let l = c .before .before .before .before .before .loop in
-    let s = c .before .before .before .before .before .before .before .args .s .now in
-    stop s _ (l .m) (l .i) (l .inv) (run-high s (l .i) (c .before .before .wide .result) (search needs) (c .before .before .wide .ensures .0) (l .m) (search needs))
+returns-2 c = search (run-high, stop, needs)
 
 returns-3 : tie.Need-returns-3 Inv-loop μ-loop
-returns-3 c =
-    let l = c .before .before .before .before .before .before .loop in
-    let s = c .before .before .before .before .before .before .before .before .args .s .now in
-    stop s _ (l .m) (l .i) (l .inv) (run-full s (l .i) (c .before .before .before .wide .result) (search needs) (c .before .before .before .wide .ensures .0) (l .m) (search needs) (search needs) (search needs))
+returns-3 c = search (run-full, stop, needs)
 
 mul-m : tie.Need-mul-m Inv-loop μ-loop
 mul-m c = search needs
@@ -71,15 +62,12 @@ loop-less c = search needs
 
 loop-again : tie.Need-loop-again Inv-loop μ-loop
 loop-again c =
-    let l = c .before .before .before .before .before .before .loop in
-    let s = c .before .before .before .before .before .before .before .before .args .s .now in
-    (l .inv .0 ∙ run-on s (l .i) (c .before .before .before .wide .result) (search needs) (c .before .before .before .wide .ensures .0) (l .m) (search needs) (search needs) (search needs), search needs, search needs, search needs)
+    let at-loop : tie.At-loop Inv-loop μ-loop = search in
+    let s = at-loop .before .before .args .s .now in
+    (at-loop .loop .inv .0 ∙ run-on s _ _ (search needs) (c .before .before .before .wide .ensures .0) _ (search needs) (search needs) (search needs), search needs, search needs, search needs)
 
 returns-4 : tie.Need-returns-4 Inv-loop μ-loop
-returns-4 c =
-    let l = c .before .loop in
-    let s = c .before .before .before .args .s .now in
-    stop s _ (l .m) (l .i) (l .inv) (run-end (l .i) s (search needs) (l .m))
+returns-4 c = search (run-end, stop, needs)
 
 pub digits-at-spec : {M : Type 1} → statement M
 digits-at-spec =

@@ -3,7 +3,6 @@
 use native.Mathlib.Omega.{arith}
 use mathlib.Core.Path.{refl, _∙_}
 use borrow.Author.Needs.{needs}
-use lib.ListN.{getD}
 use lib.IntN.{pos}
 use Rattle.image.specs.Lengths.{word}
 use Rattle.decimals.proofs.Steps.{yes-at, not-at, then-bad, number-zero, number-minus, number-plus, number-end, word-below, word-above}
@@ -11,8 +10,7 @@ use Rattle.decimals.proofs.number_at.Statement.{statement}
 use Rattle.decimals.proofs.number_at.Tie as tie
 
 returns : tie.Need-returns
-returns c =
-    let a = c .before .before .args in not-at (number-end (a .at) (a .s .now) (search needs))
+returns c = search (not-at, number-end, needs)
 
 shared-slice-read-b : tie.Need-shared-slice-read-b
 shared-slice-read-b c = search needs
@@ -23,10 +21,10 @@ add-next c = search needs
 returns-2 : tie.Need-returns-2
 unfolding word
 returns-2 c =
-    let a = c .before .before .before .before .args in
+    let start : tie.Start = search in
     yes-at (record {
       value = pos 0;
-      reads = number-zero (a .s .now) (a .at) (getD (a .s .now) (a .at) 0) (search needs) refl (search needs);
+      reads = number-zero _ (start .args .at) _ (search needs) refl (search needs);
       holds = refl;
       from = search needs;
       to = search needs;
@@ -43,8 +41,8 @@ enum-told c = search needs
 
 returns-3 : tie.Need-returns-3
 returns-3 c =
-    let a = c .before .before .before .before .before .before .before .before .args in
-    not-at (number-minus (a .s .now) (a .at) (getD (a .s .now) (a .at) 0) (search needs) refl (search needs) ∙ then-bad _ (c .before .before .nonzero-at .ensures .fail (c .enum-told .given .1)))
+    let start : tie.Start = search in
+    not-at (number-minus _ (start .args .at) _ (search needs) refl (search needs) ∙ then-bad _ (c .before .before .nonzero-at .ensures .fail (c .enum-told .given .1)))
 
 sub-t14 : tie.Need-sub-t14
 sub-t14 c =
@@ -52,9 +50,9 @@ sub-t14 c =
 
 returns-4 : tie.Need-returns-4
 returns-4 c =
-    let a = c .before .before .before .before .before .before .before .before .before .args in
+    let start : tie.Start = search in
     let g = c .before .before .before .nonzero-at .ensures .good _ _ (c .before .m .given .1) in
-    word-below (search needs) g (number-minus (a .s .now) (a .at) (getD (a .s .now) (a .at) 0) (search needs) refl (search needs))
+    word-below (search needs) g (number-minus _ (start .args .at) _ (search needs) refl (search needs))
 
 nonzero-at-requires-2 : tie.Need-nonzero-at-requires-2
 nonzero-at-requires-2 c κs = search needs
@@ -67,8 +65,8 @@ enum-told-2 c = search needs
 
 returns-5 : tie.Need-returns-5
 returns-5 c =
-    let a = c .before .before .before .before .before .before .before .before .args in
-    not-at (number-plus (a .s .now) (a .at) (getD (a .s .now) (a .at) 0) (search needs) refl (search needs) (search needs) ∙ then-bad _ (c .before .before .nonzero-at2 .ensures .fail (c .enum-told2 .given .1)))
+    let start : tie.Start = search in
+    not-at (number-plus _ (start .args .at) _ (search needs) refl (search needs) (search needs) ∙ then-bad _ (c .before .before .nonzero-at2 .ensures .fail (c .enum-told2 .given .1)))
 
 add-t16 : tie.Need-add-t16
 add-t16 c =
@@ -76,9 +74,9 @@ add-t16 c =
 
 returns-6 : tie.Need-returns-6
 returns-6 c =
-    let a = c .before .before .before .before .before .before .before .before .before .args in
+    let start : tie.Start = search in
     let g = c .before .before .before .nonzero-at2 .ensures .good _ _ (c .before .m2 .given .1) in
-    word-above (search needs) g (number-plus (a .s .now) (a .at) (getD (a .s .now) (a .at) 0) (search needs) refl (search needs) (search needs))
+    word-above (search needs) g (number-plus _ (start .args .at) _ (search needs) refl (search needs) (search needs))
 
 pub number-at-spec : {M : Type 1} → statement M
 number-at-spec =

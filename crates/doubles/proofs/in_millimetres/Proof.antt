@@ -14,8 +14,7 @@ verdict-requires-2 : tie.Need-verdict-requires-2
 verdict-requires-2 c κs = search needs
 
 returns : tie.Need-returns
-returns c =
-    doubled-is (c .before .before .before .before .before .before .before .args .j) _ _ _ (c .before .before .sheet-of .ensures) (c .before .verdict .ensures) (c .verdict2 .ensures)
+returns c = search (doubled-is, needs)
 
 pub in-millimetres-spec : {M : Type 1} → statement M
 in-millimetres-spec =

@@ -17,8 +17,7 @@ millimetres-requires-4 : tie.Need-millimetres-requires-4
 millimetres-requires-4 c κs = search needs
 
 returns : tie.Need-returns
-returns c =
-    sheet-is (c .before .before .before .before .args .f) _ _ _ _ (c .before .before .before .millimetres .ensures .0) (c .before .before .millimetres2 .ensures .0) (c .before .millimetres3 .ensures .0) (c .millimetres4 .ensures .0)
+returns c = search (sheet-is, needs)
 
 pub sheet-of-spec : {M : Type 1} → statement M
 sheet-of-spec =

@@ -11,12 +11,10 @@ millimetres-requires-2 : tie.Need-millimetres-requires-2
 millimetres-requires-2 c κs = search needs
 
 returns : tie.Need-returns
-returns c =
-    within-is (c .before .before .before .args .j) _ _ (c .before .before .millimetres .ensures .0) (c .before .millimetres2 .ensures .0) (c .if1 .taken)
+returns c = search (within-is, needs)
 
 returns-2 : tie.Need-returns-2
-returns-2 c =
-    beyond-is (c .before .before .before .args .j) _ _ (c .before .before .millimetres .ensures .0) (c .before .millimetres2 .ensures .0) (c .if1 .left)
+returns-2 c = search (beyond-is, needs)
 
 pub verdict-spec : {M : Type 1} → statement M
 verdict-spec = tie.close (tie.spec millimetres-requires millimetres-requires-2 returns returns-2)

@@ -19,12 +19,19 @@ abbrev μ-loop : tie.MeasureT-loop
     turns
 
 -- what came lies within the buffer
-bound : (c : tie.Else1 Inv-loop μ-loop) → c .before .before .before .before .before .before .before .before .next-place .result + c .before .before .n .given .0 .0 ≤ LONGEST + 1
-bound c =
-    let l = c .before .before .before .before .before .before .before .before .before .before .loop .inv .1 in
-    let e : Ends (Bytes (c .before .before .n .given .0 .0)) (c .before .before .before .before .before .before .before .before .next-place .result) (length (c .before .before .before .before .before .before .before .before .before .before .loop .buffer)) =
-    subst (λ (g : Got). Ends g (c .before .before .before .before .before .before .before .before .next-place .result) (length (c .before .before .before .before .before .before .before .before .before .before .loop .buffer))) (c .before .before .n .given .1) (c .before .before .before .before .before .before .read-once .ensures) in
-    omega (arith, e, l)
+module _ (c : tie.Else1 Inv-loop μ-loop) where
+  abbrev after-next-place : tie.After-next-place Inv-loop μ-loop
+  after-next-place = search
+
+  abbrev at-loop : tie.At-loop Inv-loop μ-loop
+  at-loop = search
+
+  bound : after-next-place .next-place .result + c .before .before .n .given .0 .0 ≤ LONGEST + 1
+  bound =
+      let after-read-once : tie.After-read-once Inv-loop μ-loop = search in
+      let e : Ends (Bytes (c .before .before .n .given .0 .0)) (after-next-place .next-place .result) (length (at-loop .loop .buffer)) =
+      subst (λ (g : Got). Ends g (after-next-place .next-place .result) (length (at-loop .loop .buffer))) (c .before .before .n .given .1) (after-read-once .read-once .ensures) in
+      omega (arith, e, at-loop .loop .inv .1)
 
 loop-holds : tie.Need-loop-holds Inv-loop μ-loop
 loop-holds c = search needs
@@ -67,7 +74,8 @@ loop-less c = search needs
 
 loop-again : tie.Need-loop-again Inv-loop μ-loop
 loop-again c =
-    let l = c .before .before .before .before .before .before .before .before .before .before .before .loop .inv .0 in
+    let at-loop : tie.At-loop Inv-loop μ-loop = search in
+    let l = at-loop .loop .inv .0 in
     (omega (arith, c .held .ensures, bound (c .before), l), search needs)
 
 same-length-3 : tie.Need-same-length-3 Inv-loop μ-loop

@@ -34,15 +34,17 @@ returns c = search needs
 
 array-share-prefix-buffer : tie.Need-array-share-prefix-buffer
 array-share-prefix-buffer c =
-    let e : Ends (Bytes (c .before .n .given .0 .0)) 0 (LONGEST + 1) = subst (λ (g : Got). Ends g 0 (LONGEST + 1)) (c .before .n .given .1) (c .before .before .before .before .fill .ensures) in
-    let l : length (c .before .before .before .before .fill .last .0) ≡ LONGEST + 1 = search needs in
+    let after-fill : tie.After-fill = search in
+    let e : Ends (Bytes (c .before .n .given .0 .0)) 0 (LONGEST + 1) = subst (λ (g : Got). Ends g 0 (LONGEST + 1)) (c .before .n .given .1) (after-fill .fill .ensures) in
+    let l : length (after-fill .fill .last .0) ≡ LONGEST + 1 = search needs in
     omega (arith, e, l)
 
 slice-aggregate-print : tie.Need-slice-aggregate-print
 slice-aggregate-print c =
-    let e : Ends (Bytes (c .before .before .n .given .0 .0)) 0 (LONGEST + 1) = subst (λ (g : Got). Ends g 0 (LONGEST + 1)) (c .before .before .n .given .1) (c .before .before .before .before .before .fill .ensures) in
-    let l : length (c .before .before .before .before .before .fill .last .0) ≡ LONGEST + 1 = search needs in
-    let h : c .before .before .n .given .0 .0 ≤ length (c .before .before .before .before .before .fill .last .0) = omega (arith, e, l) in
+    let after-fill : tie.After-fill = search in
+    let e : Ends (Bytes (c .before .before .n .given .0 .0)) 0 (LONGEST + 1) = subst (λ (g : Got). Ends g 0 (LONGEST + 1)) (c .before .before .n .given .1) (after-fill .fill .ensures) in
+    let l : length (after-fill .fill .last .0) ≡ LONGEST + 1 = search needs in
+    let h : c .before .before .n .given .0 .0 ≤ length (after-fill .fill .last .0) = omega (arith, e, l) in
     sym (length-take-le _ _ h)
 
 print-requires : tie.Need-print-requires

@@ -9,8 +9,7 @@ report-file-requires : tie.Need-report-file-requires
 report-file-requires c κs = search needs
 
 array-share-prefix-text : tie.Need-array-share-prefix-text
-array-share-prefix-text c =
-    held-room _ _ (c .before .report-file .ensures)
+array-share-prefix-text c = search (held-room, needs)
 
 slice-aggregate-write-all : tie.Need-slice-aggregate-write-all
 slice-aggregate-write-all c =

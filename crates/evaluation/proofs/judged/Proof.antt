@@ -19,9 +19,7 @@ returns c =
     (e .0 ∙ short-is _ _ (known (c .before .before .any-empty .ensures) (c .before .if1 .taken)), e .1)
 
 screened-requires : tie.Need-screened-requires
-screened-requires c κs =
-    let p = c .before .before .pre in
-    ready _ _ (p .0) (p .1) (known (c .before .any-empty .ensures) (c .if1 .left))
+screened-requires c κs = search (known, ready, needs)
 
 returns-2 : tie.Need-returns-2
 returns-2 c =

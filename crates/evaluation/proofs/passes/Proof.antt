@@ -11,31 +11,29 @@ any-empty-requires : tie.Need-any-empty-requires
 any-empty-requires c κs = search needs
 
 returns : tie.Need-returns
-returns c = short-off _ _ (known (c .before .any-empty .ensures) (c .if1 .taken))
+returns c = search (known, short-off, needs)
 
 first-suspect-requires : tie.Need-first-suspect-requires
-first-suspect-requires c κs =
-    let p = c .before .before .pre in
-    ready _ _ (p .0) (p .1) (known (c .before .any-empty .ensures) (c .if1 .left))
+first-suspect-requires c κs = search (known, ready, needs)
 
 enum-told : tie.Need-enum-told
 enum-told c = search needs
 
 both-within-requires : tie.Need-both-within-requires
-both-within-requires c κs =
-    let p = c .before .before .before .before .before .pre in
-    ready _ _ (p .0) (p .1) (known (c .before .before .before .before .any-empty .ensures) (c .before .before .before .if1 .left))
+both-within-requires c κs = search (known, ready, needs)
 
 enum-told-2 : tie.Need-enum-told-2
 enum-told-2 c = search needs
 
 returns-2 : tie.Need-returns-2
 returns-2 c =
-    c .both-within .ensures ∙ clear-on _ _ (known (c .before .before .before .before .before .any-empty .ensures) (c .before .before .before .before .if1 .left)) (sym (c .before .enum-told .given .1) ∙ c .before .before .before .first-suspect .ensures)
+    let else1 : tie.Else1 = search in
+    c .both-within .ensures ∙ clear-on _ _ (known (else1 .before .any-empty .ensures) (else1 .if1 .left)) (sym (c .before .enum-told .given .1) ∙ c .before .before .before .first-suspect .ensures)
 
 returns-3 : tie.Need-returns-3
 returns-3 c =
-    suspect-off _ _ (known (c .before .before .before .before .any-empty .ensures) (c .before .before .before .if1 .left)) _ _ _ (sym (c .enum-told2 .given .1) ∙ c .before .before .first-suspect .ensures)
+    let after-any-empty : tie.After-any-empty = search in
+    suspect-off _ _ (known (after-any-empty .any-empty .ensures) (c .before .before .before .if1 .left)) _ _ _ (sym (c .enum-told2 .given .1) ∙ c .before .before .first-suspect .ensures)
 
 pub passes-spec : {M : Type 1} → statement M
 passes-spec =

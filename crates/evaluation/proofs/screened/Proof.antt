@@ -16,8 +16,9 @@ not-judged-requires c κs = search needs
 
 returns : tie.Need-returns
 returns c =
+    let after-first-suspect : tie.After-first-suspect = search in
     let e = c .not-judged .ensures in
-    (e .0 ∙ suspect-is _ _ _ _ _ _ (sym (c .before .before .found .given .1) ∙ c .before .before .before .before .first-suspect .ensures), e .1)
+    (e .0 ∙ suspect-is _ _ _ _ _ _ (sym (c .before .before .found .given .1) ∙ after-first-suspect .first-suspect .ensures), e .1)
 
 enum-told : tie.Need-enum-told
 enum-told c = search needs

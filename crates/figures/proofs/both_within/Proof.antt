@@ -21,12 +21,12 @@ element-copy-out-within-by-2 c = search needs
 
 within-by-requires-2 : tie.Need-within-by-requires-2
 within-by-requires-2 c κs =
-    (omega arith, omega arith, c .before .before .before .sums .ensures .1 .qh, c .before .before .before .before .pre .scales 5 (omega arith) (omega arith))
+    let start : tie.Start = search in
+    (omega arith, omega arith, c .before .before .before .sums .ensures .1 .qh, start .pre .scales 5 (omega arith) (omega arith))
 
 returns : tie.Need-returns
 unfolding termsOf
-returns c =
-    both-is _ _ _ _ _ (c .before .before .before .before .sums .ensures .0) (c .before .before .within-by .ensures) (c .within-by2 .ensures)
+returns c = search (both-is, needs)
 
 pub both-within-spec : {M : Type 1} → statement M
 both-within-spec =

@@ -17,10 +17,7 @@ figure-requires-4 : tie.Need-figure-requires-4
 figure-requires-4 c κs = search needs
 
 returns : tie.Need-returns
-returns c = (
-  shown-are (c .before .before .before .before .args .s) _ _ _ _ (c .before .before .before .figure .ensures .0) (c .before .before .figure2 .ensures .0) (c .before .figure3 .ensures .0) (c .figure4 .ensures .0),
-  record { sx = c .before .before .before .figure .ensures .1; sy = c .before .before .figure2 .ensures .1; sxy = c .before .figure3 .ensures .1; sh = c .figure4 .ensures .1 },
-)
+returns c = search (shown-are, needs)
 
 pub shown-of-spec : {M : Type 1} → statement M
 shown-of-spec =

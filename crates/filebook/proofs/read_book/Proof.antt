@@ -21,23 +21,31 @@ filled-requires c κs = search needs
 
 returns : tie.Need-returns
 returns c =
-    let d = was-read _ _ (c .before .before .before .before .before .before .before .before .before .before .before .read .ensures) (c .before .before .before .before .before .before .before .before .if1 .taken) in
-    ap (λ (b : Book). step 0 b) (c .filled .ensures) ∙ way-book _ _ d (known (c .before .before .before .before .before .before .in-range .ensures) (c .before .before .before .before .before .if2 .taken)) (known (c .before .before .all-near .ensures) (c .before .if3 .taken))
+    let then2 : tie.Then2 = search in
+    let then1 : tie.Then1 = search in
+    let after-read : tie.After-read = search in
+    let d = was-read _ _ (after-read .read .ensures) (then1 .if1 .taken) in
+    ap (λ (b : Book). step 0 b) (c .filled .ensures) ∙ way-book _ _ d (known (then2 .before .in-range .ensures) (then2 .if2 .taken)) (known (c .before .before .all-near .ensures) (c .before .if3 .taken))
 
 refused-requires : tie.Need-refused-requires
 refused-requires c κs = search needs
 
 returns-2 : tie.Need-returns-2
 returns-2 c =
-    let d = was-read _ _ (c .before .before .before .before .before .before .before .before .before .before .before .read .ensures) (c .before .before .before .before .before .before .before .before .if1 .taken) in
-    c .refused .ensures ∙ way-far _ _ d (known (c .before .before .before .before .before .before .in-range .ensures) (c .before .before .before .before .before .if2 .taken)) (known (c .before .before .all-near .ensures) (c .before .if3 .left))
+    let then2 : tie.Then2 = search in
+    let then1 : tie.Then1 = search in
+    let after-read : tie.After-read = search in
+    let d = was-read _ _ (after-read .read .ensures) (then1 .if1 .taken) in
+    c .refused .ensures ∙ way-far _ _ d (known (then2 .before .in-range .ensures) (then2 .if2 .taken)) (known (c .before .before .all-near .ensures) (c .before .if3 .left))
 
 refused-requires-2 : tie.Need-refused-requires-2
 refused-requires-2 c κs = search needs
 
 returns-3 : tie.Need-returns-3
 returns-3 c =
-    let d = was-read _ _ (c .before .before .before .before .before .before .before .read .ensures) (c .before .before .before .before .if1 .taken) in
+    let then1 : tie.Then1 = search in
+    let after-read : tie.After-read = search in
+    let d = was-read _ _ (after-read .read .ensures) (then1 .if1 .taken) in
     c .refused2 .ensures ∙ way-terms _ _ d (known (c .before .before .in-range .ensures) (c .before .if2 .left))
 
 refused-requires-3 : tie.Need-refused-requires-3
@@ -45,7 +53,8 @@ refused-requires-3 c κs = search needs
 
 returns-4 : tie.Need-returns-4
 returns-4 c =
-    c .refused3 .ensures ∙ way-form _ (unread _ _ (c .before .before .before .before .read .ensures) (c .before .if1 .left))
+    let after-read : tie.After-read = search in
+    c .refused3 .ensures ∙ way-form _ (unread _ _ (after-read .read .ensures) (c .before .if1 .left))
 
 pub read-book-spec : {M : Type 1} → statement M
 read-book-spec =

@@ -14,7 +14,8 @@ report-requires c κs =
 
 returns : tie.Need-returns
 returns c =
-    c .report .ensures ∙ ap held (printed-is _ _ (file-prints _) (c .before .before .before .before .judge-file .ensures .0))
+    let after-judge-file : tie.After-judge-file = search in
+    c .report .ensures ∙ ap held (printed-is _ _ (file-prints _) (after-judge-file .judge-file .ensures .0))
 
 pub report-file-spec : {M : Type 1} → statement M
 report-file-spec = tie.close (tie.spec judge-file-requires report-requires returns)

@@ -1,5 +1,3 @@
-use mathlib.Core.Path.{refl}
-use lib.Dec.{eqb}
 use Rattle.ranges.proofs.Laws.{and-same}
 use Rattle.form.specs.Whole.{bare}
 use borrow.Author.Needs.{needs}
@@ -17,8 +15,7 @@ zero-from-requires-3 c κs = search needs
 
 returns : tie.Need-returns
 unfolding bare
-returns c =
-    and-same {a = eqb (c .before .before .before .before .before .before .args .kept) 0} refl (and-same (c .before .before .before .before .zero-from .ensures) (and-same (c .before .before .zero-from2 .ensures) (c .zero-from3 .ensures)))
+returns c = search (and-same, needs)
 
 pub bare-spec : {M : Type 1} → statement M
 bare-spec =

@@ -7,8 +7,7 @@ bare-requires : tie.Need-bare-requires
 bare-requires c κs = search needs
 
 returns : tie.Need-returns
-returns c =
-    form-closed _ _ _ _ _ (c .before .if1 .taken) (c .bare .ensures)
+returns c = search (form-closed, needs)
 
 sound-requires : tie.Need-sound-requires
 sound-requires c κs = search needs

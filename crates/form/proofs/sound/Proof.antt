@@ -4,8 +4,7 @@ use Rattle.form.proofs.sound.Statement.{statement}
 use Rattle.form.proofs.sound.Tie as tie
 
 returns : tie.Need-returns
-returns c =
-    sound-many _ _ _ _ (c .if1 .taken)
+returns c = search (sound-many, needs)
 
 mul-zero-from : tie.Need-mul-zero-from
 mul-zero-from c = search needs
@@ -20,8 +19,7 @@ all-stand-requires : tie.Need-all-stand-requires
 all-stand-requires c κs = search needs
 
 returns-2 : tie.Need-returns-2
-returns-2 c =
-    sound-is _ _ _ _ (c .before .before .before .before .if1 .left) (c .before .before .zero-from .ensures) (c .before .in-range .ensures) (c .all-stand .ensures)
+returns-2 c = search (sound-is, needs)
 
 pub sound-spec : {M : Type 1} → statement M
 sound-spec =

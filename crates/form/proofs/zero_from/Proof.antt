@@ -28,7 +28,8 @@ shared-slice-read-if1 c = search needs
 
 returns : tie.Need-returns Inv-loop μ-loop
 returns c =
-    let h : c .before .before .before .loop .i < length (c .before .before .before .before .args .l .now) = omega arith in
+    let start : tie.Start Inv-loop μ-loop = search in
+    let h : c .before .before .before .loop .i < length (start .args .l .now) = omega arith in
     sym (c .before .before .before .loop .inv .1 ∙ zeros-stop _ _ h (c .if1 .taken))
 
 add-i : tie.Need-add-i Inv-loop μ-loop
@@ -39,7 +40,8 @@ loop-less c = search needs
 
 loop-again : tie.Need-loop-again Inv-loop μ-loop
 loop-again c =
-    let h : c .before .before .before .loop .i < length (c .before .before .before .before .args .l .now) = omega arith in
+    let start : tie.Start Inv-loop μ-loop = search in
+    let h : c .before .before .before .loop .i < length (start .args .l .now) = omega arith in
     (omega arith, c .before .before .before .loop .inv .1 ∙ zeros-on _ _ h (c .if1 .left))
 
 returns-2 : tie.Need-returns-2 Inv-loop μ-loop

@@ -40,21 +40,7 @@ word-of-requires-12 : tie.Need-word-of-requires-12
 word-of-requires-12 c κs = search needs
 
 returns : tie.Need-returns
-returns c =
-    let s = c .before .before .before .before .before .before .before .before .before .before .before .before in
-    twelve-words _ _ _ _ _ _ _ _ _ _ _ _ _ _ _ _ _ _ _ _ _ _ _ _
-    (repaired (s .args .distance) (s .fits .distance) (c .before .before .before .before .before .before .before .before .before .before .before .word-of .ensures))
-    (repaired (s .args .height) (s .fits .height) (c .before .before .before .before .before .before .before .before .before .before .word-of2 .ensures))
-    (repaired (s .args .sxy) (s .fits .sxy) (c .before .before .before .before .before .before .before .before .before .word-of3 .ensures))
-    (repaired (s .args .sh) (s .fits .sh) (c .before .before .before .before .before .before .before .before .word-of4 .ensures))
-    (repaired (s .args .gxy) (s .fits .gxy) (c .before .before .before .before .before .before .before .word-of5 .ensures))
-    (repaired (s .args .gh) (s .fits .gh) (c .before .before .before .before .before .before .word-of6 .ensures))
-    (repaired (s .args .x1) (s .fits .x1) (c .before .before .before .before .before .word-of7 .ensures))
-    (repaired (s .args .y1) (s .fits .y1) (c .before .before .before .before .word-of8 .ensures))
-    (repaired (s .args .h1) (s .fits .h1) (c .before .before .before .word-of9 .ensures))
-    (repaired (s .args .x2) (s .fits .x2) (c .before .before .word-of10 .ensures))
-    (repaired (s .args .y2) (s .fits .y2) (c .before .word-of11 .ensures))
-    (repaired (s .args .h2) (s .fits .h2) (c .word-of12 .ensures))
+returns c = search (twelve-words, repaired, needs)
 
 pub terms-of-spec : {M : Type 1} → statement M
 terms-of-spec =

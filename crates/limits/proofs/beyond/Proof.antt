@@ -15,7 +15,7 @@ mul-result-2 : tie.Need-mul-result-2
 mul-result-2 c = omega (arith, squared (c .before .pre .1))
 
 returns : tie.Need-returns
-returns c = beyond-is _ _ _ (c .limit .ensures .0)
+returns c = search (beyond-is, needs)
 
 pub beyond-spec : {M : Type 1} → statement M
 beyond-spec = tie.close (tie.spec limit-requires mul-result mul-result-2 returns)

@@ -24,7 +24,7 @@ mul-result-2 c = omega (arith, squared (least c))
 returns : tie.Need-returns
 returns c =
     let low : ORIGIN ≤ c .args .s = omega arith in
-    (limit-is (c .args .s) low, omega (arith, squared (least c)))
+    (limit-is _ low, omega (arith, squared (least c)))
 
 pub limit-spec : {M : Type 1} → statement M
 limit-spec = tie.close (tie.spec sub-k mul-result mul-result-2 returns)

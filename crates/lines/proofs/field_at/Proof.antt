@@ -26,7 +26,8 @@ slice-aggregate-fixed-at c = search needs
 
 fixed-at-requires : tie.Need-fixed-at-requires
 fixed-at-requires c κs =
-    c .before .before .before .before .number-at .ensures .good _ _ (c .before .before .z .given .1) .to
+    let after-number-at : tie.After-number-at = search in
+    after-number-at .number-at .ensures .good _ _ (c .before .before .z .given .1) .to
 
 enum-known-m : tie.Need-enum-known-m
 enum-known-m c = search needs
@@ -37,13 +38,15 @@ enum-told-2 c = search needs
 returns-2 : tie.Need-returns-2
 unfolding field
 returns-2 c =
-    let g = c .before .before .before .before .before .before .before .number-at .ensures .good _ _ (c .before .before .before .before .before .z .given .1) in
+    let after-z : tie.After-z = search in
+    let g = after-z .before .before .number-at .ensures .good _ _ (after-z .z .given .1) in
     not-at (then-got _ (g .reads) ∙ then-bad _ (c .before .before .fixed-at .ensures .fail (c .enum-told2 .given .1)))
 
 returns-3 : tie.Need-returns-3
 unfolding field
 returns-3 c =
-    let g = c .before .before .before .before .before .before .before .before .number-at .ensures .good _ _ (c .before .before .before .before .before .before .z .given .1) in
+    let after-z : tie.After-z = search in
+    let g = after-z .before .before .number-at .ensures .good _ _ (after-z .z .given .1) in
     let h = c .before .before .before .fixed-at .ensures .good _ _ (c .before .m .given .1) in
     yes-at (on _ g (on _ h (done (g .holds) (h .to))))
 

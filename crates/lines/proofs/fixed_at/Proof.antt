@@ -24,9 +24,8 @@ loop-holds c =
 
 returns : tie.Need-returns Inv-loop μ-loop
 returns c =
-    let a = c .before .before .before .args in
     let l = c .before .before .loop in
-    not-at (l .inv .0 ∙ fixed-short (a .s .now) (a .w .now) (l .i) (l .j) (search needs) (search needs))
+    not-at (l .inv .0 ∙ fixed-short _ _ (l .i) (l .j) (search needs) (search needs))
 
 shared-slice-read-if2 : tie.Need-shared-slice-read-if2 Inv-loop μ-loop
 shared-slice-read-if2 c = search needs
@@ -36,9 +35,9 @@ shared-slice-read-if2-2 c = search needs
 
 returns-2 : tie.Need-returns-2 Inv-loop μ-loop
 returns-2 c =
-    let a = c .before .before .before .before .before .before .args in
-    let l = c .before .before .before .before .before .loop in
-    not-at (l .inv .0 ∙ fixed-differs (a .s .now) (a .w .now) (l .i) (l .j) (search needs) (search needs) (search needs))
+    let at-loop : tie.At-loop Inv-loop μ-loop = search in
+    let l = at-loop .loop in
+    not-at (l .inv .0 ∙ fixed-differs _ _ (l .i) (l .j) (search needs) (search needs) (search needs))
 
 add-i : tie.Need-add-i Inv-loop μ-loop
 add-i c = search needs
@@ -51,15 +50,14 @@ loop-less c = search needs
 
 loop-again : tie.Need-loop-again Inv-loop μ-loop
 loop-again c =
-    let a = c .before .before .before .before .before .before .args in
-    let l = c .before .before .before .before .before .loop in
-    (l .inv .0 ∙ fixed-on (a .s .now) (a .w .now) (l .i) (l .j) (search needs) (search needs) (search needs), search needs, search needs, search needs)
+    let at-loop : tie.At-loop Inv-loop μ-loop = search in
+    let l = at-loop .loop in
+    (l .inv .0 ∙ fixed-on _ _ (l .i) (l .j) (search needs) (search needs) (search needs), search needs, search needs, search needs)
 
 returns-3 : tie.Need-returns-3 Inv-loop μ-loop
 returns-3 c =
-    let a = c .before .before .args in
     let l = c .before .loop in
-    yes-at (record { value = tt; reads = l .inv .0 ∙ fixed-end (a .w .now) (drop (l .i) (a .s .now)) (l .j) (search needs); holds = tt; from = l .inv .1; to = l .inv .2 })
+    yes-at (record { value = tt; reads = l .inv .0 ∙ fixed-end _ _ (l .j) (search needs); holds = tt; from = l .inv .1; to = l .inv .2 })
 
 pub fixed-at-spec : {M : Type 1} → statement M
 fixed-at-spec =

@@ -16,8 +16,7 @@ abbrev μ-loop : tie.MeasureT-loop
     n - k
 
 loop-holds : tie.Need-loop-holds Inv-loop μ-loop
-loop-holds c =
-    let a = c .before .before .args in reading-none (a .s .now) (a .at) (a .n) (a .out .now) (a .base) (search needs)
+loop-holds c = search (reading-none, needs)
 
 sub-sep-of : tie.Need-sub-sep-of Inv-loop μ-loop
 sub-sep-of c = search needs
@@ -42,8 +41,8 @@ same-length c = search needs
 
 returns : tie.Need-returns Inv-loop μ-loop
 returns c =
-    let a = c .before .before .before .before .before .before .before .before .args in
-    not-at (reading-bad (a .s .now) (a .at) (a .n) (a .out .now) (a .base) (c .before .before .before .before .before .loop .inv) _ (search needs) (c .before .before .before .sep-of .ensures) (c .before .before .field-at .ensures .fail (c .enum-told .given .1)))
+    let at-loop : tie.At-loop Inv-loop μ-loop = search in
+    not-at (reading-bad _ _ _ _ _ (at-loop .loop .inv) _ (search needs) (c .before .before .before .sep-of .ensures) (c .before .before .field-at .ensures .fail (c .enum-told .given .1)))
 
 add-out : tie.Need-add-out Inv-loop μ-loop
 add-out c = search needs
@@ -62,16 +61,14 @@ loop-less c = search needs
 
 loop-again : tie.Need-loop-again Inv-loop μ-loop
 loop-again c =
-    let a = c .before .before .before .before .before .before .before .before .before .args in
-    reading-on (a .s .now) (a .at) (a .n) (a .out .now) (a .base) (c .before .before .before .before .before .before .loop .inv) _ (search needs) (c .before .before .before .before .sep-of .ensures) (search needs) (c .before .before .before .field-at .ensures .good _ _ (c .before .z .given .1))
+    let after-sep-of : tie.After-sep-of Inv-loop μ-loop = search in
+    reading-on _ _ _ _ _ (after-sep-of .before .before .loop .inv) _ (search needs) (after-sep-of .sep-of .ensures) (search needs) (c .before .before .before .field-at .ensures .good _ _ (c .before .z .given .1))
 
 same-length-2 : tie.Need-same-length-2 Inv-loop μ-loop
 same-length-2 c = search needs
 
 returns-2 : tie.Need-returns-2 Inv-loop μ-loop
-returns-2 c =
-    let a = c .before .before .before .before .args in
-    reading-all (a .s .now) (a .at) (a .n) (a .out .now) (a .base) (c .before .loop .inv) (search needs)
+returns-2 c = search (reading-all, needs)
 
 pub numbers-at-spec : {M : Type 1} → statement M
 numbers-at-spec =

@@ -44,7 +44,7 @@ same-length c = search needs
 
 returns : tie.Need-returns Inv-loop μ-loop
 returns c =
-    cleared-all (c .before .before .args .bytes .now) (c .before .loop .bytes) (c .before .loop .i) (omega arith) (c .before .loop .inv .2)
+    cleared-all _ _ (c .before .loop .i) (omega arith) (c .before .loop .inv .2)
 
 pub clear-spec : {M : Type 1} → statement M
 clear-spec =

@@ -52,7 +52,7 @@ loop-again c =
       omega arith,
       omega arith,
       simp length-set (l .inv .2),
-      list-more (c .before .before .before .before .before .args .register .now) (l .k) h (l .numbers) (l .count) (omega (arith, l .inv .1, l .inv .2)) (l .inv .3) (known (c .before .on-list .ensures) (c .if1 .taken)),
+      list-more _ _ h _ (l .count) (omega (arith, l .inv .1, l .inv .2)) (l .inv .3) (known (c .before .on-list .ensures) (c .if1 .taken)),
     )
 
 add-k-2 : tie.Need-add-k-2 Inv-loop μ-loop
@@ -62,14 +62,7 @@ loop-less-2 : tie.Need-loop-less-2 Inv-loop μ-loop
 loop-less-2 c = search needs
 
 loop-again-2 : tie.Need-loop-again-2 Inv-loop μ-loop
-loop-again-2 c =
-    let l = c .before .before .before .loop in
-    let h : l .k < BOOKS = c .before .before .loop-test .taken in (
-      omega arith,
-      omega arith,
-      l .inv .2,
-      list-same (c .before .before .before .before .before .args .register .now) (l .k) h (take (l .count) (l .numbers)) (l .inv .3) (known (c .before .on-list .ensures) (c .if1 .left)),
-    )
+loop-again-2 c = search (known, list-same, needs)
 
 returns : tie.Need-returns Inv-loop μ-loop
 unfolding passing

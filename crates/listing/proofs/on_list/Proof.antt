@@ -15,17 +15,18 @@ load-requires c κs =
     omega (arith, form-length _ (c .before .pre .0), c .before .pre .1)
 
 returns : tie.Need-returns
-returns c =
-    closed-not (c .before .before .before .load .result) _ (c .before .before .before .load .ensures) (c .if1 .taken)
+returns c = search (closed-not, needs)
 
 passes-requires : tie.Need-passes-requires
 passes-requires c κs =
-    let s = c .before .before .before .before .before .before .before in
-    words-formed (c .before .before .before .before .before .load .result) (record { form = rw (c .before .before .before .before .before .load .ensures) (form-at (s .args .register .now) (s .args .k) (s .pre .0) (s .pre .1)); opened = c .before .before .if1 .left })
+    let after-load : tie.After-load = search in
+    let s = after-load .before .before in
+    words-formed (after-load .load .result) (record { form = rw (after-load .load .ensures) (form-at _ _ (s .pre .0) (s .pre .1)); opened = c .before .before .if1 .left })
 
 returns-2 : tie.Need-returns-2
 returns-2 c =
-    c .passes .ensures ∙ open-passes (c .before .before .before .before .before .before .load .result) _ (c .before .before .before .before .before .before .load .ensures) (c .before .before .before .if1 .left)
+    let after-load : tie.After-load = search in
+    c .passes .ensures ∙ open-passes _ _ (after-load .load .ensures) (c .before .before .before .if1 .left)
 
 pub on-list-spec : {M : Type 1} → statement M
 on-list-spec = tie.close (tie.spec mul-load load-requires returns passes-requires returns-2)

@@ -38,7 +38,7 @@ loop-again c =
     let h : c .before .before .loop .i < length (s .args .from .now) = omega arith in (
       omega arith,
       simp length-set (omega arith),
-      rw (c .before .before .loop .inv .2) (write-turn (s .args .from .now) (s .args .list .now) (c .before .before .loop .i) h (s .pre)),
+      rw (c .before .before .loop .inv .2) (write-turn (s .args .from .now) _ _ h (s .pre)),
     )
 
 same-length : tie.Need-same-length Inv-loop μ-loop
@@ -46,7 +46,7 @@ same-length c = search needs
 
 returns : tie.Need-returns Inv-loop μ-loop
 returns c =
-    written-all (c .before .before .args .from .now) (c .before .before .args .list .now) (c .before .loop .list) (c .before .loop .i) (omega arith) (c .before .loop .inv .2)
+    written-all (c .before .before .args .from .now) _ _ (c .before .loop .i) (omega arith) (c .before .loop .inv .2)
 
 pub write-spec : {M : Type 1} → statement M
 write-spec =

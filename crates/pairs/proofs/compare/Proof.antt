@@ -14,17 +14,19 @@ not-compared-requires c κs = search needs
 
 returns : tie.Need-returns
 returns c =
-    c .not-compared .ensures ∙ compared-refused _ _ _ (c .before .before .refused .result) (c .before .before .refused .ensures) (c .before .if1 .taken)
+    c .not-compared .ensures ∙ compared-refused _ _ _ _ (c .before .before .refused .ensures) (c .before .if1 .taken)
 
 compare-requires : tie.Need-compare-requires
 compare-requires c κs =
-    let s = c .before .before .before .before .before .before .before .before .before .before .args in
-    let o : Comparable (s .first) (s .second) (s .axis) = comparable _ _ _ (sym (c .before .before .before .before .before .before .before .before .if1 .left) ∙ c .before .before .before .before .before .before .before .before .before .refused .ensures) in
+    let else1 : tie.Else1 = search in
+    let s = else1 .before .before .args in
+    let o : Comparable (s .first) (s .second) (s .axis) = comparable _ _ _ (sym (else1 .if1 .left) ∙ else1 .before .refused .ensures) in
     (o .axis-known, words-formed _ (o .first), words-formed _ (o .second))
 
 returns-2 : tie.Need-returns-2
 returns-2 c =
-    c .compare .ensures ∙ compared-open _ _ _ (comparable _ _ _ (sym (c .before .before .before .before .before .before .before .before .before .if1 .left) ∙ c .before .before .before .before .before .before .before .before .before .before .refused .ensures))
+    let else1 : tie.Else1 = search in
+    c .compare .ensures ∙ compared-open _ _ _ (comparable _ _ _ (sym (else1 .if1 .left) ∙ else1 .before .refused .ensures))
 
 pub compare-spec : {M : Type 1} → statement M
 compare-spec =

@@ -18,17 +18,22 @@ one-to-requires c κs = search needs
 returns : tie.Need-returns
 unfolding refusedOf
 returns c =
-    simp (sym (c .before .before .before .before .before .before .before .in-form .ensures), sym (c .before .before .before .before .before .before .in-form2 .ensures), c .before .before .before .before .before .if1 .taken, known (c .before .before .before .before .one-to .ensures) (c .before .before .before .if2 .taken), c .if3 .taken)
+    let after-one-to : tie.After-one-to = search in
+    let after-in-form : tie.After-in-form = search in
+    simp (sym (after-in-form .in-form .ensures), sym (after-one-to .before .before .in-form2 .ensures), after-one-to .before .if1 .taken, known (after-one-to .one-to .ensures) (c .before .before .before .if2 .taken), c .if3 .taken)
 
 returns-2 : tie.Need-returns-2
 unfolding refusedOf
 returns-2 c =
-    simp (sym (c .before .before .before .before .before .before .before .in-form .ensures), sym (c .before .before .before .before .before .before .in-form2 .ensures), c .before .before .before .before .before .if1 .taken, known (c .before .before .before .before .one-to .ensures) (c .before .before .before .if2 .taken), c .if3 .left)
+    let after-one-to : tie.After-one-to = search in
+    let after-in-form : tie.After-in-form = search in
+    simp (sym (after-in-form .in-form .ensures), sym (after-one-to .before .before .in-form2 .ensures), after-one-to .before .if1 .taken, known (after-one-to .one-to .ensures) (c .before .before .before .if2 .taken), c .if3 .left)
 
 returns-3 : tie.Need-returns-3
 unfolding refusedOf
 returns-3 c =
-    simp (sym (c .before .before .before .before .in-form .ensures), sym (c .before .before .before .in-form2 .ensures), c .before .before .if1 .taken, known (c .before .one-to .ensures) (c .if2 .left))
+    let after-in-form : tie.After-in-form = search in
+    simp (sym (after-in-form .in-form .ensures), sym (c .before .before .before .in-form2 .ensures), c .before .before .if1 .taken, known (c .before .one-to .ensures) (c .if2 .left))
 
 returns-4 : tie.Need-returns-4
 unfolding refusedOf

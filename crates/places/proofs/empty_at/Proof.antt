@@ -1,4 +1,3 @@
-use mathlib.Core.Path.{sym, _∙_}
 use Rattle.image.proofs.Places.{empty-spot}
 use borrow.Author.Needs.{needs}
 use Rattle.places.proofs.empty_at.Statement.{statement}
@@ -35,8 +34,7 @@ all-zero-requires : tie.Need-all-zero-requires
 all-zero-requires c κs = search needs
 
 returns : tie.Need-returns
-returns c =
-    c .all-zero .ensures ∙ sym (empty-spot _ _ _)
+returns c = search (empty-spot, needs)
 
 pub empty-at-spec : {M : Type 1} → statement M
 empty-at-spec =

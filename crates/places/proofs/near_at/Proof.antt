@@ -37,7 +37,7 @@ near-requires : tie.Need-near-requires
 near-requires c κs = search needs
 
 returns : tie.Need-returns
-returns c = spot-near _ _ _ _ _ (c .before .before .before .before .empty-at .ensures) (c .near .ensures)
+returns c = search (spot-near, needs)
 
 pub near-at-spec : {M : Type 1} → statement M
 near-at-spec =

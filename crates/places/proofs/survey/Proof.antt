@@ -74,20 +74,22 @@ loop-less : tie.Need-loop-less Inv-loop μ-loop
 loop-less c = search needs
 
 loop-again : tie.Need-loop-again Inv-loop μ-loop
-loop-again c = (
-  omega arith,
-  search needs,
-  marks-set (c .before .before .before .before .before .loop .marks) (c .before .before .before .before .before .before .before .args .cells .now) (c .before .before .before .before .before .loop .set) (c .before .before .before .mark-at .result) (c .before .before .mark-at2 .result) (omega arith) (c .before .before .before .mark-at .ensures) (c .before .before .mark-at2 .ensures) (c .before .before .before .before .before .loop .inv .2),
-  near-set _ _ (c .before .before .before .before .before .loop .near) (c .before .before .before .before .before .loop .set) (c .before .before .before .before .loop-test .taken) (c .before .near-at .ensures) (c .near-at2 .ensures) ∙ c .before .before .before .before .before .loop .inv .3,
-)
+loop-again c =
+    let in-loop : tie.In-loop Inv-loop μ-loop = search in
+    let start : tie.Start Inv-loop μ-loop = search in (
+      omega arith,
+      search needs,
+      marks-set (in-loop .before .loop .marks) (start .args .cells .now) _ _ _ (omega arith) (c .before .before .before .mark-at .ensures) (c .before .before .mark-at2 .ensures) (in-loop .before .loop .inv .2),
+      near-set _ _ (in-loop .before .loop .near) _ (in-loop .loop-test .taken) (c .before .near-at .ensures) (c .near-at2 .ensures) ∙ in-loop .before .loop .inv .3,
+    )
 
 same-length : tie.Need-same-length Inv-loop μ-loop
 same-length c = c .before .loop .inv .1 ∙ sym (c .before .before .before .pre)
 
 returns : tie.Need-returns Inv-loop μ-loop
 returns c = (
-  near-end _ _ (c .before .loop .near) (c .before .loop .set) (omega arith) (c .before .loop .inv .3),
-  marks-all (c .before .loop .marks) (c .before .before .before .args .cells .now) (c .before .loop .set * 2) (omega arith) (c .before .loop .inv .1) (c .before .loop .inv .2),
+  near-end _ _ _ _ (omega arith) (c .before .loop .inv .3),
+  marks-all (c .before .loop .marks) _ _ (omega arith) (c .before .loop .inv .1) (c .before .loop .inv .2),
 )
 
 pub survey-spec : {M : Type 1} → statement M

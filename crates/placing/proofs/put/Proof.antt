@@ -1,4 +1,3 @@
-use Prim.Native.Nat.{_*_}
 use native.Mathlib.Omega.{arith}
 use mathlib.Core.Path.{_≡_}
 use lib.ListN.{length}
@@ -38,7 +37,7 @@ array-write-out-3 c = search needs
 returns : tie.Need-returns
 returns c =
     let l : length (c .args .old) ≡ CELL-WORDS = search needs in
-    three-pasted (c .args .old) (c .args .place * 3) (c .args .x) (c .args .y) (c .args .h) (omega (arith, l, c .pre))
+    three-pasted _ _ _ _ _ (omega (arith, l, c .pre))
 
 pub put-spec : {M : Type 1} → statement M
 put-spec =

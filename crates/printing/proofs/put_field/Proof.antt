@@ -23,11 +23,13 @@ put-digits-requires c κs =
 
 slice-write-out-2 : tie.Need-slice-write-out-2
 slice-write-out-2 c =
-    let a = c .before .before .before .before .before .before .args in omega (arith, room-minus (a .z) (a .sep) (search needs), c .before .before .before .before .before .before .pre, c .before .before .put-digits .ensures .end, simp length-set at (c .before .before .put-digits .kept .0))
+    let start : tie.Start = search in
+    let a = start .args in omega (arith, room-minus (a .z) (a .sep) (search needs), start .pre, c .before .before .put-digits .ensures .end, simp length-set at (c .before .before .put-digits .kept .0))
 
 add-result : tie.Need-add-result
 add-result c =
-    let a = c .before .before .before .before .before .before .args in omega (arith, room-minus (a .z) (a .sep) (search needs), c .before .before .before .before .before .before .pre, c .before .before .put-digits .ensures .end)
+    let start : tie.Start = search in
+    let a = start .args in omega (arith, room-minus (a .z) (a .sep) (search needs), start .pre, c .before .before .put-digits .ensures .end)
 
 put-digits-requires-2 : tie.Need-put-digits-requires-2
 put-digits-requires-2 c κs =
@@ -35,11 +37,13 @@ put-digits-requires-2 c κs =
 
 slice-write-out-3 : tie.Need-slice-write-out-3
 slice-write-out-3 c =
-    let a = c .before .before .before .before .before .before .args in omega (arith, room-plus (a .z) (a .sep) (search needs), c .before .before .before .before .before .before .pre, c .before .before .put-digits2 .ensures .end, c .before .before .put-digits2 .kept .0)
+    let start : tie.Start = search in
+    let a = start .args in omega (arith, room-plus (a .z) (a .sep) (search needs), start .pre, c .before .before .put-digits2 .ensures .end, c .before .before .put-digits2 .kept .0)
 
 add-result-2 : tie.Need-add-result-2
 add-result-2 c =
-    let a = c .before .before .before .before .before .before .args in omega (arith, room-plus (a .z) (a .sep) (search needs), c .before .before .before .before .before .before .pre, c .before .before .put-digits2 .ensures .end)
+    let start : tie.Start = search in
+    let a = start .args in omega (arith, room-plus (a .z) (a .sep) (search needs), start .pre, c .before .before .put-digits2 .ensures .end)
 
 same-length : tie.Need-same-length
 same-length c =
@@ -47,17 +51,19 @@ same-length c =
 
 returns : tie.Need-returns
 returns c =
-    let a = c .before .before .before .before .before .before .args in
+    let start : tie.Start = search in
+    let a = start .args in
     let r = room-minus (a .z) (a .sep) (search needs) in
-    put-minus (a .z) (a .sep) (search needs) (omega (arith, r, c .before .before .before .before .before .before .pre)) (c .before .before .put-digits .ensures) (simp length-set at (c .before .before .put-digits .kept .0)) (omega (arith, r, c .before .before .before .before .before .before .pre, c .before .before .put-digits .ensures .end))
+    put-minus _ _ (search needs) (omega (arith, r, start .pre)) (c .before .before .put-digits .ensures) (simp length-set at (c .before .before .put-digits .kept .0)) (omega (arith, r, start .pre, c .before .before .put-digits .ensures .end))
 
 same-length-2 : tie.Need-same-length-2
 same-length-2 c = search needs
 
 returns-2 : tie.Need-returns-2
 returns-2 c =
-    let a = c .before .before .before .before .before .before .args in
-    put-plus (a .z) (a .sep) (search needs) (c .before .before .put-digits2 .ensures) (c .before .before .put-digits2 .kept .0) (omega (arith, room-plus (a .z) (a .sep) (search needs), c .before .before .before .before .before .before .pre, c .before .before .put-digits2 .ensures .end))
+    let start : tie.Start = search in
+    let a = start .args in
+    put-plus _ _ (search needs) (c .before .before .put-digits2 .ensures) (c .before .before .put-digits2 .kept .0) (omega (arith, room-plus (a .z) (a .sep) (search needs), start .pre, c .before .before .put-digits2 .ensures .end))
 
 pub put-field-spec : {M : Type 1} → statement M
 put-field-spec =

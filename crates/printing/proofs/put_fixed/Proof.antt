@@ -18,8 +18,7 @@ abbrev μ-loop : tie.MeasureT-loop
     length w - j
 
 loop-holds : tie.Need-loop-holds Inv-loop μ-loop
-loop-holds c =
-    let a = c .args in (pasted-start (a .out .now) (a .at) (a .w .now), search needs, search needs)
+loop-holds c = search (pasted-start, needs)
 
 shared-slice-read-out : tie.Need-shared-slice-read-out Inv-loop μ-loop
 shared-slice-read-out c = search needs
@@ -37,10 +36,7 @@ loop-less : tie.Need-loop-less Inv-loop μ-loop
 loop-less c = search needs
 
 loop-again : tie.Need-loop-again Inv-loop μ-loop
-loop-again c =
-    let a = c .before .before .before .args in
-    let l = c .before .before .loop in
-    (pasted-take (a .out .now) (l .out) (a .w .now) (a .at) (l .j) (search needs) (search needs) (l .inv .0), search needs, search needs)
+loop-again c = search (pasted-take, needs)
 
 add-result : tie.Need-add-result Inv-loop μ-loop
 add-result c = search needs
@@ -49,10 +45,7 @@ same-length : tie.Need-same-length Inv-loop μ-loop
 same-length c = search needs
 
 returns : tie.Need-returns Inv-loop μ-loop
-returns c =
-    let a = c .before .before .args in
-    let l = c .before .loop in
-    put-all (a .out .now) (l .out) (a .w .now) (a .at) (l .j) (l .inv .1) (search needs) (l .inv .0)
+returns c = search (put-all, needs)
 
 pub put-fixed-spec : {M : Type 1} → statement M
 put-fixed-spec =

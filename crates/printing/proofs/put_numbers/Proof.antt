@@ -16,8 +16,7 @@ abbrev μ-loop : tie.MeasureT-loop
     length zs - k
 
 loop-holds : tie.Need-loop-holds Inv-loop μ-loop
-loop-holds c =
-    let a = c .before .before .args in writing-none (a .out .now) (a .at) (a .zs .now)
+loop-holds c = search (writing-none, needs)
 
 sub-sep-of : tie.Need-sub-sep-of Inv-loop μ-loop
 sub-sep-of c = search needs
@@ -35,9 +34,7 @@ shared-slice-read-put-field : tie.Need-shared-slice-read-put-field Inv-loop μ-l
 shared-slice-read-put-field c = search needs
 
 put-field-requires : tie.Need-put-field-requires Inv-loop μ-loop
-put-field-requires c κs =
-    let a = c .before .before .before .before .before .before .before .args in
-    writing-room (a .out .now) (a .at) (a .zs .now) (c .before .before .before .before .loop .inv) _ (search needs) (c .before .before .sep-of .ensures) (c .before .before .before .before .before .before .before .pre)
+put-field-requires c κs = search (writing-room, needs)
 
 add-k : tie.Need-add-k Inv-loop μ-loop
 add-k c = search needs
@@ -46,16 +43,13 @@ loop-less : tie.Need-loop-less Inv-loop μ-loop
 loop-less c = search needs
 
 loop-again : tie.Need-loop-again Inv-loop μ-loop
-loop-again c =
-    let a = c .before .before .before .before .before .before .before .before .before .before .args in
-    writing-on (a .out .now) (a .at) (a .zs .now) (c .before .before .before .before .before .before .before .loop .inv) _ (search needs) (c .before .before .before .before .before .sep-of .ensures) (c .before .before .before .before .before .before .before .before .before .before .pre) (c .before .before .put-field .ensures) (c .before .before .put-field .kept .0)
+loop-again c = search (writing-on, needs)
 
 same-length : tie.Need-same-length Inv-loop μ-loop
 same-length c = search needs
 
 returns : tie.Need-returns Inv-loop μ-loop
-returns c =
-    let a = c .before .before .before .before .args in writing-all (a .out .now) (a .at) (a .zs .now) (c .before .loop .inv) (search needs)
+returns c = search (writing-all, needs)
 
 pub put-numbers-spec : {M : Type 1} → statement M
 put-numbers-spec =

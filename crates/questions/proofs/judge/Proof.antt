@@ -15,17 +15,18 @@ not-judged-requires c κs = search needs
 
 returns : tie.Need-returns
 returns c =
+    let after-in-form : tie.After-in-form = search in
     let e = c .not-judged .ensures in
-    (e .0 ∙ judged-closed _ (known (c .before .before .before .before .in-form .ensures) (c .before .before .before .if1 .taken)) (c .before .if2 .taken), e .1)
+    (e .0 ∙ judged-closed _ (known (after-in-form .in-form .ensures) (c .before .before .before .if1 .taken)) (c .before .if2 .taken), e .1)
 
 judged-requires : tie.Need-judged-requires
-judged-requires c κs =
-    words-formed (c .before .before .before .before .before .before .before .before .args .b) (record { form = known (c .before .before .before .before .before .in-form .ensures) (c .before .before .before .before .if1 .taken); opened = c .before .before .if2 .left })
+judged-requires c κs = search (known, words-formed, needs)
 
 returns-2 : tie.Need-returns-2
 returns-2 c =
+    let then1 : tie.Then1 = search in
     let e = c .judged .ensures in
-    (e .0 ∙ judged-open (c .before .before .before .before .before .before .before .before .before .args .b) (record { form = known (c .before .before .before .before .before .before .in-form .ensures) (c .before .before .before .before .before .if1 .taken); opened = c .before .before .before .if2 .left }), e .1)
+    (e .0 ∙ judged-open _ (record { form = known (then1 .before .in-form .ensures) (then1 .if1 .taken); opened = c .before .before .before .if2 .left }), e .1)
 
 not-judged-requires-2 : tie.Need-not-judged-requires-2
 not-judged-requires-2 c κs = search needs

@@ -22,7 +22,7 @@ returns : tie.Need-returns
 returns c =
     let s = c .before .before .before .args in
     let at : Place = record { series = s .series; set = s .set; point = s .point } in
-    c .no-lengths .ensures ∙ residual-refused (s .b) at _ (ap (λ (a : Aim). a .refusal) (c .before .before .aim .ensures)) (c .before .if1 .taken)
+    c .no-lengths .ensures ∙ residual-refused _ at _ (ap (λ (a : Aim). a .refusal) (c .before .before .aim .ensures)) (c .before .if1 .taken)
 
 any-empty-requires : tie.Need-any-empty-requires
 any-empty-requires c κs = search needs
@@ -32,26 +32,30 @@ no-lengths-requires-2 c κs = search needs
 
 returns-2 : tie.Need-returns-2
 returns-2 c =
-    let s = c .before .before .before .before .before .before .before .before .args in
+    let else1 : tie.Else1 = search in
+    let s = else1 .before .before .args in
     let at : Place = record { series = s .series; set = s .set; point = s .point } in
-    let o = aimed (s .b) at (c .before .before .before .before .before .before .before .aim .result) (c .before .before .before .before .before .before .before .aim .ensures) (c .before .before .before .before .before .before .if1 .left) in
-    c .no-lengths2 .ensures ∙ residual-short (s .b) at _ o (known (c .before .before .any-empty .ensures) (c .before .if2 .taken))
+    let o = aimed _ at _ (else1 .before .aim .ensures) (else1 .if1 .left) in
+    c .no-lengths2 .ensures ∙ residual-short _ at _ o (known (c .before .before .any-empty .ensures) (c .before .if2 .taken))
 
 residuals-requires : tie.Need-residuals-requires
 residuals-requires c κs =
-    let s = c .before .before .before .before .before .before .before .before .before .args in
+    let else1 : tie.Else1 = search in
+    let s = else1 .before .before .args in
     let at : Place = record { series = s .series; set = s .set; point = s .point } in
     let z : Sized (s .b) = record { terms = search needs; cells = search needs; changes = search needs } in
-    let o = aimed (s .b) at (c .before .before .before .before .before .before .before .before .aim .result) (c .before .before .before .before .before .before .before .before .aim .ensures) (c .before .before .before .before .before .before .before .if1 .left) in
-    let f = words-formed (s .b) (on-opened (s .b) at _ o) in
-    (place-small (s .b) z at _ o, ready _ _ (f .0) (f .1) (known (c .before .before .before .any-empty .ensures) (c .before .before .if2 .left)))
+    let o = aimed _ at _ (else1 .before .aim .ensures) (else1 .if1 .left) in
+    let f = words-formed _ (on-opened (s .b) at _ o) in
+    (place-small _ z at _ o, ready _ _ (f .0) (f .1) (known (c .before .before .before .any-empty .ensures) (c .before .before .if2 .left)))
 
 returns-3 : tie.Need-returns-3
 returns-3 c =
-    let s = c .before .before .before .before .before .before .before .before .before .before .args in
+    let after-any-empty : tie.After-any-empty = search in
+    let else1 : tie.Else1 = search in
+    let s = else1 .before .before .args in
     let at : Place = record { series = s .series; set = s .set; point = s .point } in
-    let o = aimed (s .b) at (c .before .before .before .before .before .before .before .before .before .aim .result) (c .before .before .before .before .before .before .before .before .before .aim .ensures) (c .before .before .before .before .before .before .before .before .if1 .left) in
-    c .residuals .ensures ∙ residual-full (s .b) at _ o (known (c .before .before .before .before .any-empty .ensures) (c .before .before .before .if2 .left))
+    let o = aimed _ at _ (else1 .before .aim .ensures) (else1 .if1 .left) in
+    c .residuals .ensures ∙ residual-full _ at _ o (known (after-any-empty .any-empty .ensures) (c .before .before .before .if2 .left))
 
 pub residual-spec : {M : Type 1} → statement M
 residual-spec =

@@ -15,8 +15,7 @@ close-requires-3 c κs = search needs
 
 returns : tie.Need-returns
 unfolding within
-returns c =
-    and-same (and-same (c .before .before .close .ensures) (c .before .close2 .ensures)) (c .close3 .ensures)
+returns c = search (and-same, needs)
 
 pub around-spec : {M : Type 1} → statement M
 around-spec = tie.close (tie.spec close-requires close-requires-2 close-requires-3 returns)

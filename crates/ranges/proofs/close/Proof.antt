@@ -7,12 +7,10 @@ sub-result : tie.Need-sub-result
 sub-result c = search needs
 
 returns : tie.Need-returns
-returns c =
-    close-less _ _ _ (c .if1 .taken)
+returns c = search (close-less, needs)
 
 returns-2 : tie.Need-returns-2
-returns-2 c =
-    close-more _ _ _ (c .if1 .left)
+returns-2 c = search (close-more, needs)
 
 pub close-spec : {M : Type 1} → statement M
 close-spec = tie.close (tie.spec sub-result returns returns-2)

@@ -45,7 +45,9 @@ points-ok-requires c κs = search needs
 
 returns : tie.Need-returns
 returns c =
-    and-same (and-same (and-same (and-same (and-same (and-same (c .before .before .before .before .before .before .before .before .before .before .before .from-1-to .ensures) (c .before .before .before .before .before .before .before .before .before .close .ensures ∙ from-zero _ _)) (c .before .before .before .before .before .before .before .from-1-to2 .ensures)) (c .before .before .before .before .before .from-1-to3 .ensures)) (c .before .before .before .from-1-to4 .ensures)) (c .before .from-1-to5 .ensures)) (c .points-ok .ensures)
+    let after-from-1-to3 : tie.After-from-1-to3 = search in
+    let after-close : tie.After-close = search in
+    and-same (and-same (and-same (and-same (and-same (and-same (after-close .before .before .from-1-to .ensures) (after-close .close .ensures ∙ from-zero _ _)) (after-from-1-to3 .before .before .from-1-to2 .ensures)) (after-from-1-to3 .from-1-to3 .ensures)) (c .before .before .before .from-1-to4 .ensures)) (c .before .from-1-to5 .ensures)) (c .points-ok .ensures)
     ∙ range-is _
 
 pub in-range-spec : {M : Type 1} → statement M

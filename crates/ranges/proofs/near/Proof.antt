@@ -41,8 +41,8 @@ around-requires c κs = search needs
 returns : tie.Need-returns
 unfolding tripleAt
 returns c =
-    let s = c .before .before .before .before .args in
-    c .around .ensures ∙ near-at-point (s .t .now) (s .x) (s .y) (s .h) (s .place)
+    let start : tie.Start = search in
+    c .around .ensures ∙ near-at-point _ _ _ _ (start .args .place)
 
 pub near-spec : {M : Type 1} → statement M
 near-spec =

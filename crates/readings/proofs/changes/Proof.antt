@@ -17,11 +17,11 @@ no-count-requires c κs = search needs
 
 returns : tie.Need-returns
 returns c =
-    c .no-count .ensures ∙ count-closed _ (known (c .before .before .before .before .in-form .ensures) (c .before .before .before .if1 .taken)) (c .before .if2 .taken)
+    let after-in-form : tie.After-in-form = search in
+    c .no-count .ensures ∙ count-closed _ (known (after-in-form .in-form .ensures) (c .before .before .before .if1 .taken)) (c .before .if2 .taken)
 
 returns-2 : tie.Need-returns-2
-returns-2 c =
-    count-open _ (sized (c .before .before .before .before)) (known (c .before .before .before .in-form .ensures) (c .before .before .if1 .taken)) (c .if2 .left)
+returns-2 c = search (known, count-open, sized, needs)
 
 no-count-requires-2 : tie.Need-no-count-requires-2
 no-count-requires-2 c κs = search needs

@@ -21,14 +21,19 @@ at-of : tie.Start → Place
 at-of s = record { series = s .args .series; set = s .args .set; point = s .args .point }
 
 -- the place that is read
-here : (c : tie.After-struct-known2)
-    → On (c .before .before .before .before .before .args .b) (at-of (c .before .before .before .before .before)) (c .before .before .before .before .sought .result .place)
-    × (isEmpty (spotAt (c .before .before .before .before .before .args .b .cells) (c .before .before .before .before .sought .result .place * 3)) ≡ false)
-unfolding at-of
-here c = read-on _ _ (c .before .before .before .before .sought .result) (c .before .before .before .before .sought .ensures) (c .before .before .if1 .left)
+module _ (c : tie.After-struct-known2) where
+  abbrev after-sought : tie.After-sought
+  after-sought = search
 
-there : (c : tie.After-struct-known2) → c .before .before .before .before .sought .result .place < PLACES
-there c = place-small _ (sized (c .before .before .before .before .before)) _ _ (here c .0)
+  abbrev start : tie.Start
+  start = search
+
+  here : On (start .args .b) (at-of start) (after-sought .sought .result .place) × (isEmpty (spotAt (start .args .b .cells) (after-sought .sought .result .place * 3)) ≡ false)
+  unfolding at-of
+  here = read-on _ _ _ (after-sought .sought .ensures) (c .before .before .if1 .left)
+
+  there : after-sought .sought .result .place < PLACES
+  there = place-small _ (sized start) _ _ (here .0)
 
 sought-requires : tie.Need-sought-requires
 sought-requires c κs = search needs
@@ -37,68 +42,61 @@ no-lengths-requires : tie.Need-no-lengths-requires
 no-lengths-requires c κs = search needs
 
 returns : tie.Need-returns
+unfolding at-of
 returns c =
-    let s = c .before .before .before .before in
-    let at : Place = record { series = s .args .series; set = s .args .set; point = s .args .point } in
-    c .no-lengths .ensures ∙ read-refused (s .args .b) at (c .before .before .before .sought .result) (sized s) (c .before .before .before .sought .ensures) (c .before .if1 .taken)
+    let s : tie.Start = search in
+    c .no-lengths .ensures ∙ read-refused _ (at-of s) _ (sized s) (c .before .before .before .sought .ensures) (c .before .if1 .taken)
 
 mul-m : tie.Need-mul-m
-mul-m c =
-    omega (arith, there c)
+mul-m c = omega (arith, there c)
 
 mul-length-of : tie.Need-mul-length-of
-mul-length-of c =
-    omega (arith, there c)
+mul-length-of c = omega (arith, there c)
 
 array-read-length-of : tie.Need-array-read-length-of
-array-read-length-of c =
-    omega (arith, there c)
+array-read-length-of c = omega (arith, there c)
 
 length-of-requires : tie.Need-length-of-requires
 length-of-requires c κs =
-    read-bound (c .before .before .before .before .before .args .b) (sized (c .before .before .before .before .before)) (at-of (c .before .before .before .before .before)) _ (here c .0) (here c .1) .0
+    read-bound _ (sized (start c)) _ _ (here c .0) (here c .1) .0
 
 add-length-of : tie.Need-add-length-of
-add-length-of c =
-    omega (arith, there (c .before))
+add-length-of c = omega (arith, there (c .before))
 
 mul-length-of-2 : tie.Need-mul-length-of-2
-mul-length-of-2 c =
-    omega (arith, there (c .before))
+mul-length-of-2 c = omega (arith, there (c .before))
 
 array-read-length-of-2 : tie.Need-array-read-length-of-2
-array-read-length-of-2 c =
-    omega (arith, there (c .before))
+array-read-length-of-2 c = omega (arith, there (c .before))
 
 length-of-requires-2 : tie.Need-length-of-requires-2
 length-of-requires-2 c κs =
-    read-bound (c .before .before .before .before .before .before .args .b) (sized (c .before .before .before .before .before .before)) (at-of (c .before .before .before .before .before .before)) _ (here (c .before) .0) (here (c .before) .1) .1
+    let at = c .before in
+    read-bound _ (sized (start at)) _ _ (here at .0) (here at .1) .1
 
 add-length-of-2 : tie.Need-add-length-of-2
-add-length-of-2 c =
-    omega (arith, there (c .before .before))
+add-length-of-2 c = omega (arith, there (c .before .before))
 
 mul-length-of-3 : tie.Need-mul-length-of-3
-mul-length-of-3 c =
-    omega (arith, there (c .before .before))
+mul-length-of-3 c = omega (arith, there (c .before .before))
 
 array-read-length-of-3 : tie.Need-array-read-length-of-3
-array-read-length-of-3 c =
-    omega (arith, there (c .before .before))
+array-read-length-of-3 c = omega (arith, there (c .before .before))
 
 length-of-requires-3 : tie.Need-length-of-requires-3
 length-of-requires-3 c κs =
-    read-bound (c .before .before .before .before .before .before .before .args .b) (sized (c .before .before .before .before .before .before .before)) (at-of (c .before .before .before .before .before .before .before)) _ (here (c .before .before) .0) (here (c .before .before) .1) .2
+    let at = c .before .before in
+    read-bound _ (sized (start at)) _ _ (here at .0) (here at .1) .2
 
 returns-2 : tie.Need-returns-2
 unfolding at-of
 returns-2 c =
+    let at = c .before .before .before in
     let bx : toZ w64 (ofZ w64 (c .before .before .length-of .result)) ≡ c .before .before .length-of .result = search needs in
     let by : toZ w64 (ofZ w64 (c .before .length-of2 .result)) ≡ c .before .length-of2 .result = search needs in
     let bh : toZ w64 (ofZ w64 (c .length-of3 .result)) ≡ c .length-of3 .result = search needs in
-    let s = c .before .before .before .before .before .before .before .before in
     lengths-same _ _ _ _ _ _ (bx ∙ c .before .before .length-of .ensures) (by ∙ c .before .length-of2 .ensures) (bh ∙ c .length-of3 .ensures)
-    ∙ read-full (s .args .b) (sized s) (at-of s) _ (here (c .before .before .before) .0) (here (c .before .before .before) .1)
+    ∙ read-full _ (sized (start at)) (at-of (start at)) _ (here at .0) (here at .1)
 
 pub read-spec : {M : Type 1} → statement M
 read-spec =

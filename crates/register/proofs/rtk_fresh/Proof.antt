@@ -4,8 +4,7 @@ use Rattle.register.proofs.rtk_fresh.Statement.{statement}
 use Rattle.register.proofs.rtk_fresh.Tie as tie
 
 returns : tie.Need-returns
-returns c =
-    fresh-refused _ (c .if1 .taken)
+returns c = search (fresh-refused, needs)
 
 clear-requires : tie.Need-clear-requires
 clear-requires c κs = search needs
@@ -14,8 +13,7 @@ same-length : tie.Need-same-length
 same-length c = search needs
 
 returns-2 : tie.Need-returns-2
-returns-2 c =
-    fresh-done (c .before .before .before .before .before .before .args .register .now) _ (c .before .before .before .before .if1 .left) (c .before .before .clear .ensures)
+returns-2 c = search (fresh-done, needs)
 
 pub rtk-fresh-spec : {M : Type 1} → statement M
 rtk-fresh-spec = tie.close (tie.spec returns clear-requires same-length returns-2)

@@ -13,18 +13,17 @@ formed-requires : tie.Need-formed-requires
 formed-requires c κs = search needs
 
 listed-requires : tie.Need-listed-requires
-listed-requires c κs =
-    known (c .before .formed .ensures) (c .if1 .taken)
+listed-requires c κs = search (known, needs)
 
 no-count-requires : tie.Need-no-count-requires
 no-count-requires c κs = search needs
 
 returns : tie.Need-returns
 returns c =
-    let s = c .before .before .before .before .before .before .before .before in
+    let then1 : tie.Then1 = search in
     let r = c .before .before .before .listed in
     let l : length (r .result .numbers) ≡ BOOKS = search needs in
-    let w = list-room (s .args .register .now) (s .args .list .now) (known (c .before .before .before .before .before .formed .ensures) (c .before .before .before .before .if1 .taken)) (r .result .numbers) (r .result .count) (r .ensures .0) (omega (arith, l, r .ensures .1)) (c .before .if2 .taken) in
+    let w = list-room _ _ (known (then1 .before .formed .ensures) (then1 .if1 .taken)) _ _ (r .ensures .0) (omega (arith, l, r .ensures .1)) (c .before .if2 .taken) in
     (c .no-count .ensures ∙ w .0, w .1)
 
 array-share-prefix-numbers : tie.Need-array-share-prefix-numbers
@@ -39,26 +38,27 @@ slice-aggregate-write c =
 
 write-requires : tie.Need-write-requires
 write-requires c κs =
-    let l : length (c .before .before .before .before .listed .result .numbers) ≡ BOOKS = search needs in
-    omega (arith, l, c .before .before .before .before .listed .ensures .1, length-take-le (c .before .before .before .before .listed .result .count) (c .before .before .before .before .listed .result .numbers) (omega (arith, l, c .before .before .before .before .listed .ensures .1)), c .before .before .if2 .left)
+    let after-listed : tie.After-listed = search in
+    let l : length (after-listed .listed .result .numbers) ≡ BOOKS = search needs in
+    omega (arith, l, after-listed .listed .ensures .1, length-take-le (after-listed .listed .result .count) (after-listed .listed .result .numbers) (omega (arith, l, after-listed .listed .ensures .1)), c .before .before .if2 .left)
 
 same-length : tie.Need-same-length
 same-length c = search needs
 
 returns-2 : tie.Need-returns-2
 returns-2 c =
-    let s = c .before .before .before .before .before .before .before .before .before .before .before .before in
-    let r = c .before .before .before .before .before .before .before .listed in
+    let else2 : tie.Else2 = search in
+    let then1 : tie.Then1 = search in
+    let r = else2 .before .before .listed in
     let l : length (r .result .numbers) ≡ BOOKS = search needs in
-    list-written (s .args .register .now) (s .args .list .now) (known (c .before .before .before .before .before .before .before .before .before .formed .ensures) (c .before .before .before .before .before .before .before .before .if1 .taken)) (r .result .numbers) (r .result .count) (r .ensures .0) (omega (arith, l, r .ensures .1)) _ (c .before .before .before .before .before .if2 .left) (c .before .before .write .ensures)
+    list-written _ _ (known (then1 .before .formed .ensures) (then1 .if1 .taken)) _ _ (r .ensures .0) (omega (arith, l, r .ensures .1)) _ (else2 .if2 .left) (c .before .before .write .ensures)
 
 no-count-requires-2 : tie.Need-no-count-requires-2
 no-count-requires-2 c κs = search needs
 
 returns-3 : tie.Need-returns-3
 returns-3 c =
-    let s = c .before .before .before .before .before in
-    let w = list-unformed (s .args .register .now) (s .args .list .now) (known (c .before .before .formed .ensures) (c .before .if1 .left)) in
+    let w = list-unformed _ _ (known (c .before .before .formed .ensures) (c .before .if1 .left)) in
     (c .no-count2 .ensures ∙ w .0, w .1)
 
 pub rtk-pass-list-spec : {M : Type 1} → statement M

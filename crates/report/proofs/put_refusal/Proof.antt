@@ -18,9 +18,7 @@ slice-aggregate-put-fixed c = search needs
 
 put-fixed-requires : tie.Need-put-fixed-requires
 unfolding refusalText ascii
-put-fixed-requires c κs =
-    let a = c .before .before .before .args in
-    first-fits (a .out .now) 0 REFUSED (line (refusalNumbers (a .refusal) (suspect (a .series) (a .set) (a .quantity)))) (starts (c .before .before .before .pre .4))
+put-fixed-requires c κs = search (first-fits, starts, needs)
 
 add-t15 : tie.Need-add-t15
 add-t15 c = search needs
@@ -40,10 +38,12 @@ slice-aggregate-put-numbers c = search needs
 put-numbers-requires : tie.Need-put-numbers-requires
 unfolding refusalText ascii
 put-numbers-requires c κs =
-    let a = c .before .before .before .before .before .before .before .before .before .args in
+    let after-put-fixed : tie.After-put-fixed = search in
+    let start : tie.Start = search in
+    let a = start .args in
     let s = suspect (a .series) (a .set) (a .quantity) in
-    room-as _ _ (ap line (numbers-suspect (a .refusal) s (c .before .before .if1 .taken) ∙ sym (lens-up (a .refusal ∷ a .series ∷ a .set ∷ a .quantity ∷ []))))
-    (second-fits (a .out .now) 0 REFUSED (line (refusalNumbers (a .refusal) s)) (starts (c .before .before .before .before .before .before .before .before .before .pre .4)) (c .before .before .before .before .before .put-fixed .ensures) (c .before .before .before .before .before .put-fixed .kept .0))
+    room-as _ _ (ap line (numbers-suspect _ s (c .before .before .if1 .taken) ∙ sym (lens-up (a .refusal ∷ a .series ∷ a .set ∷ a .quantity ∷ []))))
+    (second-fits _ 0 REFUSED (line (refusalNumbers (a .refusal) s)) (starts (start .pre .4)) (after-put-fixed .put-fixed .ensures) (after-put-fixed .put-fixed .kept .0))
 
 same-length : tie.Need-same-length
 same-length c = search needs
@@ -51,10 +51,13 @@ same-length c = search needs
 returns : tie.Need-returns
 unfolding refusalText ascii
 returns c =
-    let a = c .before .before .before .before .before .before .before .before .before .before .before .before .args in
+    let then1 : tie.Then1 = search in
+    let after-put-fixed : tie.After-put-fixed = search in
+    let start : tie.Start = search in
+    let a = start .args in
     let s = suspect (a .series) (a .set) (a .quantity) in
-    two-put (a .out .now) 0 REFUSED (line (refusalNumbers (a .refusal) s)) (starts (c .before .before .before .before .before .before .before .before .before .before .before .before .pre .4)) (c .before .before .before .before .before .before .before .before .put-fixed .ensures)
-    (put-as (ap line (numbers-suspect (a .refusal) s (c .before .before .before .before .before .if1 .taken) ∙ sym (lens-up (a .refusal ∷ a .series ∷ a .set ∷ a .quantity ∷ [])))) (c .before .before .put-numbers .ensures))
+    two-put _ 0 REFUSED _ (starts (start .pre .4)) (after-put-fixed .put-fixed .ensures)
+    (put-as (ap line (numbers-suspect _ s (then1 .if1 .taken) ∙ sym (lens-up (a .refusal ∷ a .series ∷ a .set ∷ a .quantity ∷ [])))) (c .before .before .put-numbers .ensures))
 
 add-t23 : tie.Need-add-t23
 add-t23 c = search needs
@@ -65,10 +68,12 @@ slice-aggregate-put-numbers-2 c = search needs
 put-numbers-requires-2 : tie.Need-put-numbers-requires-2
 unfolding refusalText ascii
 put-numbers-requires-2 c κs =
-    let a = c .before .before .before .before .before .before .before .before .before .args in
+    let after-put-fixed : tie.After-put-fixed = search in
+    let start : tie.Start = search in
+    let a = start .args in
     let s = suspect (a .series) (a .set) (a .quantity) in
-    room-as _ _ (ap line (numbers-other (a .refusal) s (c .before .before .if1 .left) ∙ sym (lens-up (a .refusal ∷ []))))
-    (second-fits (a .out .now) 0 REFUSED (line (refusalNumbers (a .refusal) s)) (starts (c .before .before .before .before .before .before .before .before .before .pre .4)) (c .before .before .before .before .before .put-fixed .ensures) (c .before .before .before .before .before .put-fixed .kept .0))
+    room-as _ _ (ap line (numbers-other _ s (c .before .before .if1 .left) ∙ sym (lens-up (a .refusal ∷ []))))
+    (second-fits _ 0 REFUSED (line (refusalNumbers (a .refusal) s)) (starts (start .pre .4)) (after-put-fixed .put-fixed .ensures) (after-put-fixed .put-fixed .kept .0))
 
 same-length-2 : tie.Need-same-length-2
 same-length-2 c = search needs
@@ -76,10 +81,13 @@ same-length-2 c = search needs
 returns-2 : tie.Need-returns-2
 unfolding refusalText ascii
 returns-2 c =
-    let a = c .before .before .before .before .before .before .before .before .before .before .before .before .args in
+    let else1 : tie.Else1 = search in
+    let after-put-fixed : tie.After-put-fixed = search in
+    let start : tie.Start = search in
+    let a = start .args in
     let s = suspect (a .series) (a .set) (a .quantity) in
-    two-put (a .out .now) 0 REFUSED (line (refusalNumbers (a .refusal) s)) (starts (c .before .before .before .before .before .before .before .before .before .before .before .before .pre .4)) (c .before .before .before .before .before .before .before .before .put-fixed .ensures)
-    (put-as (ap line (numbers-other (a .refusal) s (c .before .before .before .before .before .if1 .left) ∙ sym (lens-up (a .refusal ∷ [])))) (c .before .before .put-numbers2 .ensures))
+    two-put _ 0 REFUSED _ (starts (start .pre .4)) (after-put-fixed .put-fixed .ensures)
+    (put-as (ap line (numbers-other _ s (else1 .if1 .left) ∙ sym (lens-up (a .refusal ∷ [])))) (c .before .before .put-numbers2 .ensures))
 
 pub put-refusal-spec : {M : Type 1} → statement M
 put-refusal-spec =

@@ -2,7 +2,6 @@
 -- Assumes nothing.
 use borrow.Author.Needs.{needs}
 use Rattle.verdicts.proofs.Pieces.{long-verdicts}
-use Rattle.report.specs.Given.{suspect}
 use Rattle.report.proofs.Pieces.{text-accepted, text-refused, long-refusal, held-is}
 use Rattle.report.proofs.report.Statement.{statement}
 use Rattle.report.proofs.report.Tie as tie
@@ -11,29 +10,19 @@ slice-aggregate-put-verdicts : tie.Need-slice-aggregate-put-verdicts
 slice-aggregate-put-verdicts c = search needs
 
 put-verdicts-requires : tie.Need-put-verdicts-requires
-put-verdicts-requires c κs =
-    let a = c .before .before .args in
-    let p = c .before .before .pre in
-    (p .4, p .5, long-verdicts (a .xy) (a .h) (p .4 .0) (p .4 .1) (p .5 .0) (p .5 .1))
+put-verdicts-requires c κs = search (long-verdicts, needs)
 
 returns : tie.Need-returns
-returns c =
-    let a = c .before .before .before .before .args in
-    held-is _ (text-accepted (a .refusal) (suspect (a .series) (a .set) (a .quantity)) (a .xy) (a .h) (c .before .before .before .if1 .taken)) (c .before .put-verdicts .ensures)
+returns c = search (text-accepted, held-is, needs)
 
 slice-aggregate-put-refusal : tie.Need-slice-aggregate-put-refusal
 slice-aggregate-put-refusal c = search needs
 
 put-refusal-requires : tie.Need-put-refusal-requires
-put-refusal-requires c κs =
-    let a = c .before .before .args in
-    let p = c .before .before .pre in
-    (p .0, p .1, p .2, p .3, long-refusal (a .refusal) (suspect (a .series) (a .set) (a .quantity)) (p .0) (p .1) (p .2) (p .3))
+put-refusal-requires c κs = search (long-refusal, needs)
 
 returns-2 : tie.Need-returns-2
-returns-2 c =
-    let a = c .before .before .before .before .args in
-    held-is _ (text-refused (a .refusal) (suspect (a .series) (a .set) (a .quantity)) (a .xy) (a .h) (c .before .before .before .if1 .left)) (c .before .put-refusal .ensures)
+returns-2 c = search (text-refused, held-is, needs)
 
 pub report-spec : {M : Type 1} → statement M
 report-spec =

@@ -42,8 +42,9 @@ loop-holds c =
 distance-suspect-requires : tie.Need-distance-suspect-requires Inv-loop μ-loop Inv-search μ-search
 unfolding termsOf
 distance-suspect-requires c κs =
+    let after-most-passing : tie.After-most-passing Inv-loop μ-loop Inv-search μ-search = search in
     let v = c .before .loop .inv in
-    (v .1, v .2, v .3, omega arith, c .before .before .before .before .before .before .pre, c .before .before .before .before .most-passing .ensures)
+    (v .1, v .2, v .3, omega arith, after-most-passing .before .before .pre, after-most-passing .most-passing .ensures)
 
 height-suspect-requires : tie.Need-height-suspect-requires Inv-loop μ-loop Inv-search μ-search
 height-suspect-requires c κs = search needs
@@ -56,7 +57,8 @@ loop-less c = search needs
 
 loop-again : tie.Need-loop-again Inv-loop μ-loop Inv-search μ-search
 loop-again c =
-    let v = c .before .before .before .before .before .loop .inv in
+    let at-loop : tie.At-loop Inv-loop μ-loop Inv-search μ-search = search in
+    let v = at-loop .loop .inv in
     let d = sym (c .before .before .before .distance-suspect .ensures) ∙ c .before .before .if1 .left in
     let h = sym (c .before .height-suspect .ensures) ∙ c .if2 .left in
     (v .0, omega arith, omega arith, omega arith, omega arith, v .5, on _ _ _ _ (v .1) (v .2) (v .3) (omega arith) (v .5) (v .6) d h)
@@ -84,7 +86,8 @@ returns-2 c =
 
 returns-3 : tie.Need-returns-3 Inv-loop μ-loop Inv-search μ-search
 returns-3 c =
-    let v = c .before .before .before .before .before .loop .inv in
+    let at-loop : tie.At-loop Inv-loop μ-loop Inv-search μ-search = search in
+    let v = at-loop .loop .inv in
     at-height _ _ _ _ (v .1) (v .2) (v .3) (omega arith) (v .5) (v .6) (sym (c .before .before .before .distance-suspect .ensures) ∙ c .before .before .if1 .left) (sym (c .before .height-suspect .ensures) ∙ c .if2 .taken)
 
 pub first-suspect-spec : {M : Type 1} → statement M

@@ -53,15 +53,17 @@ element-copy-out-beyond c = search needs
 
 beyond-requires : tie.Need-beyond-requires
 beyond-requires c κs =
-    let r = c .before .before .before .before .before .before .pre .4 in
-    (r .scales 3 (omega arith) (omega arith), omega (arith, near (c .before .before .before .before .before), r .height, c .before .apart .ensures .1))
+    let after-words-from : tie.After-words-from = search in
+    let r = after-words-from .before .pre .4 in
+    (r .scales 3 (omega arith) (omega arith), omega (arith, near after-words-from, r .height, c .before .apart .ensures .1))
 
 returns : tie.Need-returns
 returns c =
-    let s = c .before .before .before .before .before .before .before in
-    let m = c .before .before .before .before .before .before .words-from .result in
-    let h : getD (s .args .cells .now) (m + 2) 0 ≤ getD (s .args .cells .now) (m + 5) 0 + ORIGIN = omega (arith, near (c .before .before .before .before .before .before)) in
-    height-is (s .args .terms .now) (s .args .cells .now) (s .pre .4) (s .args .series) (s .args .set) (s .pre .0) (s .pre .1) (s .pre .2) (s .pre .3) m (c .before .before .before .before .before .before .words-from .ensures) _ _ h (c .before .before .apart .ensures .0) (c .beyond .ensures)
+    let after-words-from : tie.After-words-from = search in
+    let s = after-words-from .before in
+    let m = after-words-from .words-from .result in
+    let h : getD (s .args .cells .now) (m + 2) 0 ≤ getD (s .args .cells .now) (m + 5) 0 + ORIGIN = omega (arith, near after-words-from) in
+    height-is _ _ (s .pre .4) _ _ (s .pre .0) (s .pre .1) (s .pre .2) (s .pre .3) m (after-words-from .words-from .ensures) _ _ h (c .before .before .apart .ensures .0) (c .beyond .ensures)
 
 pub height-suspect-spec : {M : Type 1} → statement M
 height-suspect-spec =

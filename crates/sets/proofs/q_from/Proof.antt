@@ -10,17 +10,17 @@ use Rattle.sets.proofs.q_from.Tie as tie
 
 -- the two differences
 module _ (c : tie.After-apart2) where
-  abbrev s : tie.Start
-  s = c .before .before .before .before .before .before
+  abbrev start : tie.Start
+  start = search
 
   dx-le : c .before .before .before .apart .result ≤ 700000
   dx-le =
-      let e : s .args .m + 0 ≡ s .args .m = omega arith in
-      let n = rw e at (s .pre .1) in
+      let e : start .args .m + 0 ≡ start .args .m = omega arith in
+      let n = rw e at (start .pre .1) in
       omega (arith, n, c .before .before .before .apart .ensures .1)
 
   dy-le : c .apart2 .result ≤ 700000
-  dy-le = omega (arith, s .pre .2, c .apart2 .ensures .1)
+  dy-le = omega (arith, start .pre .2, c .apart2 .ensures .1)
 
 add-apart : tie.Need-add-apart
 add-apart c = search needs
@@ -71,7 +71,7 @@ add-result : tie.Need-add-result
 add-result c = omega (arith, squared (dx-le c), squared (dy-le c))
 
 returns : tie.Need-returns
-returns c = q-from-is _ _ _ _ (c .before .before .before .apart .ensures .0) (c .apart2 .ensures .0)
+returns c = search (q-from-is, needs)
 
 pub q-from-spec : {M : Type 1} → statement M
 q-from-spec =

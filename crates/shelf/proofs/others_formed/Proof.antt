@@ -12,7 +12,7 @@ is-book-requires c κs = search needs
 
 sub-formed-from : tie.Need-sub-formed-from
 sub-formed-from c =
-    among BOOKS (c .before .before .before .args .book) (known (c .before .is-book .ensures) (c .if1 .taken)) .0
+    among BOOKS _ (known (c .before .is-book .ensures) (c .if1 .taken)) .0
 
 formed-from-requires : tie.Need-formed-from-requires
 formed-from-requires c κs =
@@ -21,7 +21,7 @@ formed-from-requires c κs =
 
 formed-from-requires-2 : tie.Need-formed-from-requires-2
 formed-from-requires-2 c κs =
-    let h = among BOOKS (c .before .before .before .before .args .book) (known (c .before .before .is-book .ensures) (c .before .if1 .taken)) in
+    let h = among BOOKS _ (known (c .before .before .is-book .ensures) (c .before .if1 .taken)) in
     (h .1, omega arith)
 
 returns : tie.Need-returns

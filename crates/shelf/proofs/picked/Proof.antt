@@ -21,16 +21,18 @@ is-book-requires c κs = search needs
 
 sub-a : tie.Need-sub-a
 sub-a c =
-    among BOOKS (c .before .before .before .before .args .book) (known (c .before .is-book .ensures) (c .if2 .taken)) .0
+    among BOOKS _ (known (c .before .is-book .ensures) (c .if2 .taken)) .0
 
 mul-a : tie.Need-mul-a
 mul-a c =
-    let h = among BOOKS (c .before .before .before .before .args .book) (known (c .before .is-book .ensures) (c .if2 .taken)) in
+    let start : tie.Start = search in
+    let h = among BOOKS (start .args .book) (known (c .before .is-book .ensures) (c .if2 .taken)) in
     search (needs, h)
 
 load-requires : tie.Need-load-requires
 load-requires c κs =
-    let h = among BOOKS (c .before .before .before .before .args .book) (known (c .before .is-book .ensures) (c .if2 .taken)) in
+    let start : tie.Start = search in
+    let h = among BOOKS (start .args .book) (known (c .before .is-book .ensures) (c .if2 .taken)) in
     omega (arith, h .0, h .1, c .before .before .if1 .left)
 
 returns-2 : tie.Need-returns-2

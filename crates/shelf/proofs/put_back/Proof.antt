@@ -13,24 +13,26 @@ returns c =
 
 sub-store : tie.Need-sub-store
 sub-store c =
-    (away-not (c .before .before .before .before .args .book) (c .before .before .before .before .args .s .refusal) _ (c .before .before .turned-away .ensures) (c .before .if1 .left)) .0
+    (away-not _ _ _ (c .before .before .turned-away .ensures) (c .before .if1 .left)) .0
 
 mul-store : tie.Need-mul-store
 mul-store c =
-    let w = away-not (c .before .before .before .before .args .book) (c .before .before .before .before .args .s .refusal) _ (c .before .before .turned-away .ensures) (c .before .if1 .left) in
+    let w = away-not _ _ _ (c .before .before .turned-away .ensures) (c .before .if1 .left) in
     search (needs, w)
 
 store-requires : tie.Need-store-requires
 store-requires c κs =
-    let w = away-not (c .before .before .before .before .args .book) (c .before .before .before .before .args .s .refusal) _ (c .before .before .turned-away .ensures) (c .before .if1 .left) in
-    omega (arith, w .0, w .1, c .before .before .before .before .pre (w .2))
+    let start : tie.Start = search in
+    let w = away-not _ _ _ (c .before .before .turned-away .ensures) (c .before .if1 .left) in
+    omega (arith, w .0, w .1, start .pre (w .2))
 
 same-length : tie.Need-same-length
 same-length c = search needs
 
 returns-2 : tie.Need-returns-2
 returns-2 c =
-    written _ _ _ _ _ (c .before .before .before .before .before .turned-away .ensures) (c .before .before .before .before .if1 .left) (c .before .before .store .ensures)
+    let else1 : tie.Else1 = search in
+    written _ _ _ _ _ (else1 .before .turned-away .ensures) (else1 .if1 .left) (c .before .before .store .ensures)
 
 pub put-back-spec : {M : Type 1} → statement M
 put-back-spec =

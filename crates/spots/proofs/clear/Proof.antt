@@ -37,8 +37,7 @@ same-length : tie.Need-same-length
 same-length c = search needs
 
 returns : tie.Need-returns
-returns c =
-    three-pasted (c .args .cells .now) (c .args .base) 0 0 0 (c .pre)
+returns c = search (three-pasted, needs)
 
 pub clear-spec : {M : Type 1} → statement M
 clear-spec =

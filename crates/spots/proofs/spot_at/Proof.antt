@@ -13,9 +13,7 @@ same-length : tie.Need-same-length
 same-length c = search needs
 
 returns : tie.Need-returns
-returns c =
-    let a = c .before .before .before .before .before .before .before .args in
-    spot-none (a .s .now) (a .at) (a .k) (a .left) (a .cells .now) (a .base) _ (search needs) (c .before .before .before .before .if1 .taken) (c .before .before .clear .ensures)
+returns c = search (spot-none, needs)
 
 tag-at-requires : tie.Need-tag-at-requires
 tag-at-requires c κs = search needs
@@ -34,12 +32,15 @@ same-length-2 c = search needs
 
 returns-2 : tie.Need-returns-2
 returns-2 c =
-    let a = c .before .before .before .before .before .before .before .before .before .before .args in
-    spot-skip (a .s .now) (a .at) (a .k) (a .left) (a .cells .now) (a .base) _ (c .before .before .before .before .before .before .before .if1 .left) (search needs) (c .before .before .clear2 .ensures) (c .before .before .before .before .before .before .tag-at .ensures .fail (c .before .before .before .before .enum-told .given .1))
+    let after-enum-told : tie.After-enum-told = search in
+    let else1 : tie.Else1 = search in
+    let start : tie.Start = search in
+    spot-skip _ _ _ (start .args .left) _ _ _ (else1 .if1 .left) (search needs) (c .before .before .clear2 .ensures) (after-enum-told .before .before .tag-at .ensures .fail (after-enum-told .enum-told .given .1))
 
 numbers-at-requires : tie.Need-numbers-at-requires
 numbers-at-requires c κs =
-    (c .before .before .before .before .tag-at .ensures .good _ _ (c .before .before .m .given .1) .to, search needs)
+    let after-tag-at : tie.After-tag-at = search in
+    (after-tag-at .tag-at .ensures .good _ _ (c .before .before .m .given .1) .to, search needs)
 
 enum-known-n : tie.Need-enum-known-n
 enum-known-n c = search needs
@@ -52,9 +53,13 @@ same-length-3 c = search needs
 
 returns-3 : tie.Need-returns-3
 returns-3 c =
-    let a = c .before .before .before .before .before .before .before .before .before .before .before .before .before .args in
-    let g = c .before .before .before .before .before .before .before .before .before .tag-at .ensures .good _ _ (c .before .before .before .before .before .before .before .m .given .1) in
-    not-at (spot-bad (a .s .now) (a .at) (a .k) (a .left) (a .cells .now) (a .base) (a .cells .now) (c .before .before .before .before .before .before .before .before .before .before .if1 .left) g (c .before .before .before .before .numbers-at .ensures .fail (c .enum-told2 .given .1)))
+    let after-numbers-at : tie.After-numbers-at = search in
+    let after-m : tie.After-m = search in
+    let else1 : tie.Else1 = search in
+    let start : tie.Start = search in
+    let a = start .args in
+    let g = after-m .before .before .tag-at .ensures .good _ _ (after-m .m .given .1) in
+    not-at (spot-bad _ _ _ (a .left) (a .cells .now) (a .base) (a .cells .now) (else1 .if1 .left) g (after-numbers-at .numbers-at .ensures .fail (c .enum-told2 .given .1)))
 
 sub-t20 : tie.Need-sub-t20
 sub-t20 c = search needs
@@ -64,9 +69,12 @@ same-length-4 c = search needs
 
 returns-4 : tie.Need-returns-4
 returns-4 c =
-    let a = c .before .before .before .before .before .before .before .before .before .before .before .before .before .before .args in
-    let g = c .before .before .before .before .before .before .before .before .before .before .tag-at .ensures .good _ _ (c .before .before .before .before .before .before .before .before .m .given .1) in
-    spot-is (a .s .now) (a .at) (a .k) (a .left) (a .cells .now) (a .base) _ (c .before .before .before .before .before .before .before .before .before .before .before .if1 .left) g (c .before .before .before .before .before .numbers-at .ensures .good _ _ (c .before .n .given .1))
+    let after-numbers-at : tie.After-numbers-at = search in
+    let after-m : tie.After-m = search in
+    let else1 : tie.Else1 = search in
+    let start : tie.Start = search in
+    let g = after-m .before .before .tag-at .ensures .good _ _ (after-m .m .given .1) in
+    spot-is _ _ _ (start .args .left) _ _ _ (else1 .if1 .left) g (after-numbers-at .numbers-at .ensures .good _ _ (c .before .n .given .1))
 
 pub spot-at-spec : {M : Type 1} → statement M
 spot-at-spec =

@@ -6,7 +6,6 @@ use mathlib.Core.Path.{_∙_}
 use lib.ListN.{getD}
 use borrow.Author.Needs.{needs}
 use Rattle.paper.specs.Procedure.{PLACES}
-use Rattle.paper.specs.Units.{allNear}
 use Rattle.image.specs.Lengths.{termsOf}
 use Rattle.image.specs.Places.{placesOf}
 use Rattle.standing.proofs.Turns.{Stands, stands-start, stands-reaches, stands-on, stands-stop, stands-end}
@@ -20,9 +19,15 @@ abbrev μ-loop : tie.MeasureT-loop
 μ-loop t cells kept changes n marks₀ near j₀ marks j = n - j
 
 -- the place of a change that can be taken back, without the facts of the loop
-reached : (c : tie.Then1 Inv-loop μ-loop) → getD (c .before .before .before .before .before .before .before .before .before .before .before .before .args .changes .now) (c .before .before .before .before .before .before .before .before .loop .j * 4) 0 < PLACES
-reached c =
-    stands-reaches _ _ (c .before .before .before .before .before .before .before .before .before .before .before .before .args .changes .now) (c .before .before .before .before .before .before .before .before .before .before .before .before .args .kept) (c .before .before .before .before .before .before .before .before .loop .marks) (c .before .before .before .before .before .before .before .before .loop .j) (c .before .before .before .before .before .before .before .before .loop .inv .1) (c .before .change-ok .ensures) (c .if1 .taken)
+module _ (c : tie.Then1 Inv-loop μ-loop) where
+  abbrev at-loop : tie.At-loop Inv-loop μ-loop
+  at-loop = search
+
+  abbrev start : tie.Start Inv-loop μ-loop
+  start = search
+
+  reached : getD (start .args .changes .now) (at-loop .loop .j * 4) 0 < PLACES
+  reached = search (stands-reaches, needs)
 
 scaled : {p : ℕ} → p < PLACES → Fits w64 (p * 8)
 scaled h = omega arith
@@ -34,7 +39,7 @@ survey-requires : tie.Need-survey-requires Inv-loop μ-loop
 survey-requires c κs = search needs
 
 loop-holds : tie.Need-loop-holds Inv-loop μ-loop
-loop-holds c = (omega arith, stands-start _ _ _ _ (c .before .survey .last .1 .1 .0) (c .before .survey .ensures .1))
+loop-holds c = search (stands-start, needs)
 
 mul-i : tie.Need-mul-i Inv-loop μ-loop
 mul-i c = search needs
@@ -82,10 +87,10 @@ mark-requires : tie.Need-mark-requires Inv-loop μ-loop
 mark-requires c κs = search needs
 
 mul-marks : tie.Need-mul-marks Inv-loop μ-loop
-mul-marks c = scaled (reached (c .before .before))
+mul-marks c = search (reached, scaled, needs)
 
 array-write-marks : tie.Need-array-write-marks Inv-loop μ-loop
-array-write-marks c = reached (c .before .before)
+array-write-marks c = search (reached, needs)
 
 add-j : tie.Need-add-j Inv-loop μ-loop
 add-j c = search needs
@@ -95,24 +100,17 @@ loop-less c = search needs
 
 loop-again : tie.Need-loop-again Inv-loop μ-loop
 loop-again c =
-    let s = c .before .before .before .before .before .before .before .before .before .before .before .before .before .before in
-    let at = c .before .before .before .before .before .before .before .before .before .before .loop in
-    let h : at .j < s .args .kept = omega arith in
-    (omega arith, stands-on (termsOf (s .args .t .now)) (placesOf (s .args .cells .now)) (s .args .changes .now) (s .args .kept) (at .marks) (at .j) (at .inv .1) (c .mark .result) h (c .before .before .before .change-ok .ensures) (c .before .before .if1 .taken) (c .mark .ensures ∙ c .before .all-zero .ensures))
+    let at-loop : tie.At-loop Inv-loop μ-loop = search in
+    let start : tie.Start Inv-loop μ-loop = search in
+    let at = at-loop .loop in
+    let h : at .j < start .args .kept = omega arith in
+    (omega arith, stands-on _ _ _ (start .args .kept) _ _ (at .inv .1) _ h (c .before .before .before .change-ok .ensures) (c .before .before .if1 .taken) (c .mark .ensures ∙ c .before .all-zero .ensures))
 
 returns : tie.Need-returns Inv-loop μ-loop
-returns c =
-    let s = c .before .before .before .before .before .before .before .before .before .before .before .before in
-    let at = c .before .before .before .before .before .before .before .before .loop in
-    let h : at .j < s .args .kept = omega arith in
-    stands-stop (termsOf (s .args .t .now)) (placesOf (s .args .cells .now)) (s .args .changes .now) (s .args .kept) (at .marks) (at .j) (at .inv .1) (allNear (termsOf (s .args .t .now)) 0 (placesOf (s .args .cells .now))) h (c .before .change-ok .ensures) (c .if1 .left)
+returns c = search (stands-stop, needs)
 
 returns-2 : tie.Need-returns-2 Inv-loop μ-loop
-returns-2 c =
-    let s = c .before .before .before .before .before in
-    let at = c .before .loop in
-    let h : s .args .kept ≤ at .j = omega arith in
-    stands-end (termsOf (s .args .t .now)) (placesOf (s .args .cells .now)) (s .args .changes .now) (s .args .kept) (at .marks) (at .j) (at .inv .1) (allNear (termsOf (s .args .t .now)) 0 (placesOf (s .args .cells .now))) h (c .before .before .before .survey .ensures .0)
+returns-2 c = search (stands-end, needs)
 
 pub all-stand-spec : {M : Type 1} → statement M
 all-stand-spec =

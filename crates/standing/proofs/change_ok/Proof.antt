@@ -5,8 +5,7 @@ use Rattle.standing.proofs.change_ok.Statement.{statement}
 use Rattle.standing.proofs.change_ok.Tie as tie
 
 returns : tie.Need-returns
-returns c =
-    marked-outside _ _ _ _ _ _ (c .if1 .taken)
+returns c = search (marked-outside, needs)
 
 all-zero-requires : tie.Need-all-zero-requires
 all-zero-requires c κs = search needs
@@ -18,8 +17,7 @@ element-copy-out-result : tie.Need-element-copy-out-result
 element-copy-out-result c = search needs
 
 returns-2 : tie.Need-returns-2
-returns-2 c =
-    marked-empty _ _ _ _ _ _ (c .before .before .before .if1 .left) (c .before .before .all-zero .ensures) (c .before .if2 .taken)
+returns-2 c = search (marked-empty, needs)
 
 near-requires : tie.Need-near-requires
 near-requires c κs = search needs

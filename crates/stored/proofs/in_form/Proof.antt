@@ -13,7 +13,8 @@ in-form-requires c κs = search needs
 returns : tie.Need-returns
 unfolding bookForm
 returns c =
-    c .in-form .ensures ∙ ap bookForm (c .before .before .before .before .before .load .ensures)
+    let after-load : tie.After-load = search in
+    c .in-form .ensures ∙ ap bookForm (after-load .load .ensures)
 
 pub in-form-spec : {M : Type 1} → statement M
 in-form-spec = tie.close (tie.spec load-requires in-form-requires returns)

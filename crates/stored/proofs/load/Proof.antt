@@ -40,14 +40,7 @@ load-at-requires-3 : tie.Need-load-at-requires-3
 load-at-requires-3 c κs = search needs
 
 returns : tie.Need-returns
-returns c =
-    let s = c .before .before .before .before .before .before .before .before .before .before .before .before in
-    book-eq (s .args .register .now) (s .args .a) _ _ _ _ _
-    (c .before .before .before .before .before .before .before .before .before .before .word-at .ensures)
-    (c .before .before .before .before .before .before .before .before .load-at .ensures)
-    (c .before .before .before .before .before .load-at2 .ensures)
-    (c .before .before .before .word-at2 .ensures)
-    (c .before .load-at3 .ensures)
+returns c = search (book-eq, needs)
 
 pub load-spec : {M : Type 1} → statement M
 load-spec =

@@ -1,4 +1,3 @@
-use native.Mathlib.Omega.{arith}
 use Rattle.stored.proofs.Stored.{stored}
 use borrow.Author.Needs.{needs}
 use Rattle.stored.proofs.store.Statement.{statement}
@@ -23,14 +22,7 @@ same-length : tie.Need-same-length
 same-length c = search needs
 
 returns : tie.Need-returns
-returns c =
-    let s = c .before .before .before .before .before .before .before .before .before .before .before .before .before .before .before .before .before .before .before .before .before .before in
-    stored (s .args .register .now) _ _ _ (s .args .a) (s .args .t3)
-    (record { terms = omega (arith, s); cells = omega (arith, s); changes = omega (arith, s) })
-    (s .pre)
-    (c .before .before .before .before .before .before .before .before .before .before .before .before .before .before .before .before .store-both .ensures)
-    (c .before .before .before .before .before .before .before .before .before .store-at .ensures)
-    (c .before .before .store-both2 .ensures)
+returns c = search (stored, needs)
 
 pub store-spec : {M : Type 1} → statement M
 store-spec =

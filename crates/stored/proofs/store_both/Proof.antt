@@ -16,9 +16,7 @@ same-length : tie.Need-same-length
 same-length c = search needs
 
 returns : tie.Need-returns
-returns c =
-    let s = c .before .before .before .before .before .before .before .before .before .before in
-    both-stored (s .args .bytes .now) _ _ (s .args .at) (s .args .w) (s .args .from .now) (s .pre) (c .before .before .before .before .before .before .paste-word .ensures) (c .before .before .store-at .ensures)
+returns c = search (both-stored, needs)
 
 pub store-both-spec : {M : Type 1} → statement M
 store-both-spec =

@@ -28,10 +28,10 @@ add-s : tie.Need-add-s Inv-loop μ-loop
 add-s c = search needs
 
 mul-q : tie.Need-mul-q Inv-loop μ-loop
-mul-q c = omega (arith, sq-step (c .raised .result) (c .raised .ensures .1))
+mul-q c = omega (arith, sq-step _ (c .raised .ensures .1))
 
 add-q : tie.Need-add-q Inv-loop μ-loop
-add-q c = omega (arith, sq-step (c .raised .result) (c .raised .ensures .1))
+add-q c = omega (arith, sq-step _ (c .raised .ensures .1))
 
 add-i : tie.Need-add-i Inv-loop μ-loop
 add-i c = search needs
@@ -47,7 +47,7 @@ loop-again c =
       sum-next _ _ _ _ (v .1) (e .0),
       sum-next _ _ _ _ (v .2) (ap (λ (u : ℕ). u * u) (e .0)),
       omega (arith, e .1),
-      omega (arith, sq-step (c .raised .result) (e .1)),
+      omega (arith, sq-step _ (e .1)),
     )
 
 returns : tie.Need-returns Inv-loop μ-loop

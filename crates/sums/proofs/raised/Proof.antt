@@ -1,6 +1,5 @@
 -- `sums::raised` meets its contract. Assumes nothing.
 use native.Mathlib.Omega.{arith}
-use mathlib.Core.Path.{refl}
 use borrow.Author.Needs.{needs}
 use Rattle.image.proofs.Ready.{raised-fits, raised-low, raised-small}
 use Rattle.sums.proofs.raised.Statement.{statement}
@@ -30,7 +29,7 @@ element-copy-out-result c = search needs
 add-result-2 : tie.Need-add-result-2
 add-result-2 c =
     let s = c .before in
-    omega (arith, raised-low (s .args .terms .now) (s .args .cells .now) (s .pre .4) (s .args .point) (s .args .axis) (s .pre .0) (s .pre .1) (s .pre .2) (s .args .i) (s .pre .3))
+    omega (arith, raised-low _ _ (s .pre .4) _ _ (s .pre .0) (s .pre .1) (s .pre .2) _ (s .pre .3))
 
 add-result-3 : tie.Need-add-result-3
 add-result-3 c = search needs
@@ -42,14 +41,10 @@ element-copy-out-result-2 : tie.Need-element-copy-out-result-2
 element-copy-out-result-2 c = search needs
 
 sub-result : tie.Need-sub-result
-sub-result c =
-    let s = c .before .before in
-    raised-fits (s .args .terms .now) (s .args .cells .now) (s .pre .4) (s .args .point) (s .args .axis) (s .pre .0) (s .pre .1) (s .pre .2) (s .args .i) (s .pre .3)
+sub-result c = search (raised-fits, needs)
 
 returns : tie.Need-returns
-returns c =
-    let s = c .before .before in
-    (refl, raised-small (s .args .terms .now) (s .args .cells .now) (s .pre .4) (s .args .point) (s .args .axis) (s .pre .0) (s .pre .1) (s .pre .2) (s .args .i) (s .pre .3))
+returns c = search (raised-small, needs)
 
 pub raised-spec : {M : Type 1} → statement M
 raised-spec =

@@ -33,7 +33,7 @@ sub-result c =
     let u = c .before .raised in
     let small : sums .result .s < 9223372036854775808 = omega (arith, sums .ensures .s-most) in
     let small' : ROUNDS * u .result < 9223372036854775808 = omega (arith, u .ensures .1) in
-    minus-fits (sums .result .s) (ROUNDS * u .result) small small'
+    minus-fits _ _ small small'
 
 returns : tie.Need-returns
 returns c =
@@ -42,8 +42,8 @@ returns c =
     let u = c .before .raised in
     let small : sums .result .s < 9223372036854775808 = omega (arith, sums .ensures .s-most) in
     let small' : ROUNDS * u .result < 9223372036854775808 = omega (arith, u .ensures .1) in
-    minus-reads (sums .result .s) (ROUNDS * u .result) small small'
-    ∙ residual-words (s .args .terms .now) (s .args .cells .now) (s .pre .2) (s .args .place) (s .args .axis) (s .pre .0) (s .pre .1) _ _ (sums .ensures .s) (u .ensures .0)
+    minus-reads _ _ small small'
+    ∙ residual-words _ _ (s .pre .2) _ _ (s .pre .0) (s .pre .1) _ _ (sums .ensures .s) (u .ensures .0)
 
 pub residual-spec : {M : Type 1} → statement M
 residual-spec =

@@ -28,7 +28,7 @@ returns : tie.Need-returns
 returns c =
     let s = c .before .before .before in
     let e = c .before .before .added-up .ensures in (
-      Q-words (s .args .terms .now) (s .args .cells .now) (s .pre .3) (s .args .point) (s .args .axis) (s .pre .0) (s .pre .1) (s .pre .2) _ _ (e .s) (e .q),
+      Q-words _ _ (s .pre .3) _ _ (s .pre .0) (s .pre .1) (s .pre .2) _ _ (e .s) (e .q),
       most _ _ (e .q-most) (e .s-most),
     )
 

@@ -35,28 +35,35 @@ enum-told-2 c = search needs
 returns-2 : tie.Need-returns-2
 unfolding count
 returns-2 c =
-    let g = c .before .before .before .before .before .before .fixed-at .ensures .good _ _ (c .before .before .before .before .n .given .1) in
+    let after-n : tie.After-n = search in
+    let g = after-n .before .before .fixed-at .ensures .good _ _ (after-n .n .given .1) in
     not-at (then-got _ (g .reads) ∙ then-bad _ (c .before .before .field-at .ensures .fail (c .enum-told2 .given .1)))
 
 returns-3 : tie.Need-returns-3
 unfolding count
 returns-3 c =
-    let g = c .before .before .before .before .before .before .before .before .fixed-at .ensures .good _ _ (c .before .before .before .before .before .before .n .given .1) in
-    let h = c .before .before .before .before .field-at .ensures .good _ _ (c .before .before .z .given .1) in
+    let after-field-at : tie.After-field-at = search in
+    let after-fixed-at : tie.After-fixed-at = search in
+    let g = after-fixed-at .fixed-at .ensures .good _ _ (after-field-at .before .before .n .given .1) in
+    let h = after-field-at .field-at .ensures .good _ _ (c .before .before .z .given .1) in
     not-at (then-got _ (g .reads) ∙ (then-got _ (h .reads) ∙ count-low (h .value) _ _ (h .holds) (c .if1 .taken)))
 
 returns-4 : tie.Need-returns-4
 unfolding count
 returns-4 c =
-    let g = c .before .before .before .before .before .before .before .before .before .fixed-at .ensures .good _ _ (c .before .before .before .before .before .before .before .n .given .1) in
-    let h = c .before .before .before .before .before .field-at .ensures .good _ _ (c .before .before .before .z .given .1) in
+    let after-field-at : tie.After-field-at = search in
+    let after-fixed-at : tie.After-fixed-at = search in
+    let g = after-fixed-at .fixed-at .ensures .good _ _ (after-field-at .before .before .n .given .1) in
+    let h = after-field-at .field-at .ensures .good _ _ (c .before .before .before .z .given .1) in
     not-at (then-got _ (g .reads) ∙ (then-got _ (h .reads) ∙ count-high (h .value) _ _ (h .holds) (c .if2 .taken)))
 
 returns-5 : tie.Need-returns-5
 unfolding count
 returns-5 c =
-    let g = c .before .before .before .before .before .before .before .before .before .fixed-at .ensures .good _ _ (c .before .before .before .before .before .before .before .n .given .1) in
-    let h = c .before .before .before .before .before .field-at .ensures .good _ _ (c .before .before .before .z .given .1) in
+    let after-field-at : tie.After-field-at = search in
+    let after-fixed-at : tie.After-fixed-at = search in
+    let g = after-fixed-at .fixed-at .ensures .good _ _ (after-field-at .before .before .n .given .1) in
+    let h = after-field-at .field-at .ensures .good _ _ (c .before .before .before .z .given .1) in
     yes-at (on _ g (on _ h (record { value = _; reads = count-is (h .value) _ _ (h .holds) (c .before .if1 .left) (c .if2 .left); holds = refl; from = search needs; to = h .to })))
 
 pub count-at-spec : {M : Type 1} → statement M

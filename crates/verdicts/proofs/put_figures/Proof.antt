@@ -20,14 +20,15 @@ slice-aggregate-put-numbers c = search needs
 
 put-numbers-requires : tie.Need-put-numbers-requires
 put-numbers-requires c κs =
-    let a = c .before .before .before .args in room-as (a .at) _ (ap line (sym (lens-up (a .m ∷ a .b ∷ [])))) (c .before .before .before .pre .2)
+    let a = c .before .before .before .args in room-as _ _ (ap line (sym (lens-up (a .m ∷ a .b ∷ [])))) (c .before .before .before .pre .2)
 
 same-length : tie.Need-same-length
 same-length c = search needs
 
 returns : tie.Need-returns
 returns c =
-    let a = c .before .before .before .before .before .before .args in put-as (ap line (sym (lens-up (a .m ∷ a .b ∷ [])))) (c .before .before .put-numbers .ensures)
+    let start : tie.Start = search in
+    let a = start .args in put-as (ap line (sym (lens-up (a .m ∷ a .b ∷ [])))) (c .before .before .put-numbers .ensures)
 
 pub put-figures-spec : {M : Type 1} → statement M
 put-figures-spec =

@@ -7,16 +7,13 @@ use mathlib.Core.Bool.{cond, _&&_}
 use mathlib.Core.List.{List}
 use Rattle.paper.specs.declared.Judged.{Judged}
 use Rattle.decimals.specs.Ascii.{ascii}
-use Rattle.verdicts.specs.Text.{XY, H, PASS, FAIL, axisLine, verdictText}
+use Rattle.verdicts.specs.Text.{XY, PASS, FAIL, axisLine, verdictText}
 use Rattle.verdicts.proofs.Pieces.{first-fits, second-fits, two-fit, third-fits, all-three, starts}
 use Rattle.verdicts.proofs.put_verdicts.Statement.{statement}
 use Rattle.verdicts.proofs.put_verdicts.Tie as tie
 
 abbrev lineXY : Judged → List ℕ
 lineXY j = axisLine XY j
-
-abbrev lineH : Judged → List ℕ
-lineH j = axisLine H j
 
 abbrev last : Judged → Judged → List ℕ
 last xy h = cond (xy .within && h .within) PASS FAIL
@@ -26,10 +23,7 @@ slice-aggregate-put-axis c = search needs
 
 put-axis-requires : tie.Need-put-axis-requires
 unfolding verdictText ascii
-put-axis-requires c κs =
-    let a = c .before .before .before .args in
-    let p = c .before .before .before .pre in
-    (p .0, first-fits (a .out .now) 0 (lineXY (a .xy)) (lineH (a .h)) (two-fit (a .out .now) 0 (lineXY (a .xy)) (lineH (a .h)) (last (a .xy) (a .h)) (starts (p .2))))
+put-axis-requires c κs = search (first-fits, two-fit, starts, needs)
 
 slice-aggregate-put-axis-2 : tie.Need-slice-aggregate-put-axis-2
 slice-aggregate-put-axis-2 c = search needs
@@ -37,9 +31,11 @@ slice-aggregate-put-axis-2 c = search needs
 put-axis-requires-2 : tie.Need-put-axis-requires-2
 unfolding verdictText ascii
 put-axis-requires-2 c κs =
-    let a = c .before .before .before .before .before .before .before .before .args in
-    let p = c .before .before .before .before .before .before .before .before .pre in
-    (p .1, second-fits (a .out .now) 0 (lineXY (a .xy)) (lineH (a .h)) (two-fit (a .out .now) 0 (lineXY (a .xy)) (lineH (a .h)) (last (a .xy) (a .h)) (starts (p .2))) (c .before .before .before .before .put-axis .ensures) (c .before .before .before .before .put-axis .kept .0))
+    let after-put-axis : tie.After-put-axis = search in
+    let start : tie.Start = search in
+    let a = start .args in
+    let p = start .pre in
+    (p .1, second-fits _ 0 _ _ (two-fit (a .out .now) 0 (lineXY (a .xy)) _ _ (starts (p .2))) (after-put-axis .put-axis .ensures) (after-put-axis .put-axis .kept .0))
 
 slice-aggregate-put-either : tie.Need-slice-aggregate-put-either
 slice-aggregate-put-either c = search needs
@@ -50,8 +46,10 @@ slice-aggregate-put-either-2 c = search needs
 put-either-requires : tie.Need-put-either-requires
 unfolding verdictText ascii
 put-either-requires c κs =
-    let a = c .before .before .before .before .before .before .before .before .before .before .before .before .before .before .before .before .args in
-    third-fits (a .out .now) 0 (lineXY (a .xy)) (lineH (a .h)) (last (a .xy) (a .h)) (starts (c .before .before .before .before .before .before .before .before .before .before .before .before .before .before .before .before .pre .2)) (c .before .before .before .before .before .before .before .before .before .before .before .before .put-axis .ensures) (c .before .before .before .before .before .before .before .put-axis2 .ensures) (c .before .before .before .before .before .before .before .put-axis2 .kept .0 ∙ c .before .before .before .before .before .before .before .before .before .before .before .before .put-axis .kept .0)
+    let after-put-axis2 : tie.After-put-axis2 = search in
+    let after-put-axis : tie.After-put-axis = search in
+    let start : tie.Start = search in
+    third-fits _ 0 _ _ _ (starts (start .pre .2)) (after-put-axis .put-axis .ensures) (after-put-axis2 .put-axis2 .ensures) (after-put-axis2 .put-axis2 .kept .0 ∙ after-put-axis .put-axis .kept .0)
 
 same-length : tie.Need-same-length
 same-length c = search needs
@@ -59,8 +57,10 @@ same-length c = search needs
 returns : tie.Need-returns
 unfolding verdictText ascii
 returns c =
-    let a = c .before .before .before .before .before .before .before .before .before .before .before .before .before .before .before .before .before .before .before .args in
-    all-three (a .out .now) 0 (lineXY (a .xy)) (lineH (a .h)) (last (a .xy) (a .h)) (starts (c .before .before .before .before .before .before .before .before .before .before .before .before .before .before .before .before .before .before .before .pre .2)) (c .before .before .before .before .before .before .before .before .before .before .before .before .before .before .before .put-axis .ensures) (c .before .before .before .before .before .before .before .before .before .before .put-axis2 .ensures) (c .before .before .put-either .ensures)
+    let after-put-axis2 : tie.After-put-axis2 = search in
+    let after-put-axis : tie.After-put-axis = search in
+    let start : tie.Start = search in
+    all-three _ 0 _ _ _ (starts (start .pre .2)) (after-put-axis .put-axis .ensures) (after-put-axis2 .put-axis2 .ensures) (c .before .before .put-either .ensures)
 
 pub put-verdicts-spec : {M : Type 1} → statement M
 put-verdicts-spec =

@@ -15,7 +15,7 @@ mul-result : tie.Need-mul-result
 mul-result c = record { fits = square-fits (c .pre) }
 
 add-result : tie.Need-add-result
-add-result c = record { fits = sum-fits (c .args .m) (c .pre) }
+add-result c = record { fits = sum-fits _ (c .pre) }
 
 returns : tie.Need-returns
 returns c = nearest-most _ _

@@ -42,7 +42,7 @@ same-length : tie.Need-same-length
 same-length c = search needs
 
 returns : tie.Need-returns
-returns c = four-pasted (c .args .bytes .now) (c .args .at) (c .args .w) (c .pre)
+returns c = search (four-pasted, needs)
 
 pub paste-half-spec : {M : Type 1} → statement M
 paste-half-spec =

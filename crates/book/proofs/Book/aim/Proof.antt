@@ -18,25 +18,28 @@ place-of-requires c κs = search needs
 returns : tie.Need-returns
 unfolding aimOf
 returns c =
-    let s = c .before .before .before .before .args in
+    let start : tie.Start = search in
+    let s = start .args in
     let at : Place = record { series = s .series; set = s .set; point = s .point } in
     simp (known (c .before .before .before .in-form .ensures) (c .before .before .if1 .taken), place-out at (omega (arith, c .before .place-of .ensures, c .if2 .taken)))
 
 returns-2 : tie.Need-returns-2
 unfolding aimOf
 returns-2 c =
-    let s = c .before .before .before .before .before .before .args in
+    let then1 : tie.Then1 = search in
+    let s = then1 .before .before .args in
     let at : Place = record { series = s .series; set = s .set; point = s .point } in
     let p = place-in at (omega (arith, c .before .before .before .place-of .ensures, c .before .before .if2 .left)) in
-    simp (known (c .before .before .before .before .before .in-form .ensures) (c .before .before .before .before .if1 .taken), p .0, eq-eqb _ _ (c .if3 .taken))
+    simp (known (then1 .before .in-form .ensures) (then1 .if1 .taken), p .0, eq-eqb _ _ (c .if3 .taken))
 
 returns-3 : tie.Need-returns-3
 unfolding aimOf
 returns-3 c =
-    let s = c .before .before .before .before .before .before .args in
+    let then1 : tie.Then1 = search in
+    let s = then1 .before .before .args in
     let at : Place = record { series = s .series; set = s .set; point = s .point } in
     let p = place-in at (omega (arith, c .before .before .before .place-of .ensures, c .before .before .if2 .left)) in
-    simp (known (c .before .before .before .before .before .in-form .ensures) (c .before .before .before .before .if1 .taken), p .0, ne-eqb _ _ (c .if3 .left), c .before .before .before .place-of .ensures ∙ p .1)
+    simp (known (then1 .before .in-form .ensures) (then1 .if1 .taken), p .0, ne-eqb _ _ (c .if3 .left), c .before .before .before .place-of .ensures ∙ p .1)
 
 returns-4 : tie.Need-returns-4
 unfolding aimOf

@@ -1,6 +1,5 @@
 use mathlib.Core.Path.{_≡_, _∙_}
 use lib.ListN.{length}
-use Rattle.image.specs.Lengths.{termsOf}
 use Rattle.form.proofs.Laws.{known}
 use Rattle.book.proofs.Meaning.{Sized}
 use Rattle.book.proofs.Steps.{step-unformed}
@@ -16,8 +15,7 @@ in-form-requires : tie.Need-in-form-requires
 in-form-requires c κs = search needs
 
 returns : tie.Need-returns
-returns c =
-    begin-open _ (sized (c .before .before .before .before)) (known (c .before .before .before .in-form .ensures) (c .before .before .if1 .taken)) _ (c .if2 .taken)
+returns c = search (known, begin-open, sized, needs)
 
 in-range-requires : tie.Need-in-range-requires
 in-range-requires c κs = search needs
@@ -27,17 +25,17 @@ filled-requires c κs = search needs
 
 returns-2 : tie.Need-returns-2
 returns-2 c =
-    let s = c .before .before .before .before .before .before .before .before in
+    let else2 : tie.Else2 = search in
+    let after-in-form : tie.After-in-form = search in
+    let s = after-in-form .before in
     let l : length (s .args .t2) ≡ 12 = search needs in
-    begun-with (s .args .self) (sized s) (known (c .before .before .before .before .before .before .before .in-form .ensures) (c .before .before .before .before .before .before .if1 .taken)) (termsOf (s .args .t2)) (c .filled .result) (c .before .before .before .before .if2 .left) (known (c .before .before .in-range .ensures) (c .before .if3 .taken)) (c .filled .ensures ∙ blank-words (s .args .t2) l)
+    begun-with _ (sized s) (known (after-in-form .in-form .ensures) (else2 .before .before .if1 .taken)) _ _ (else2 .if2 .left) (known (c .before .before .in-range .ensures) (c .before .if3 .taken)) (c .filled .ensures ∙ blank-words _ l)
 
 returns-3 : tie.Need-returns-3
-returns-3 c =
-    begin-range _ (sized (c .before .before .before .before .before .before .before)) (known (c .before .before .before .before .before .before .in-form .ensures) (c .before .before .before .before .before .if1 .taken)) _ (c .before .before .before .if2 .left) (known (c .before .in-range .ensures) (c .if3 .left))
+returns-3 c = search (known, begin-range, sized, needs)
 
 returns-4 : tie.Need-returns-4
-returns-4 c =
-    step-unformed _ _ (known (c .before .in-form .ensures) (c .if1 .left))
+returns-4 c = search (known, step-unformed, needs)
 
 pub begin-words-spec : {M : Type 1} → statement M
 begin-words-spec =

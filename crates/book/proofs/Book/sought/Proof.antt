@@ -15,23 +15,25 @@ aim-requires : tie.Need-aim-requires
 aim-requires c κs = search needs
 
 returns : tie.Need-returns
-returns c =
-    sought-before _ _ _ _ _ (c .before .before .aim .ensures) (c .if1 .taken)
+returns c = search (sought-before, needs)
 
 empty-at-requires : tie.Need-empty-at-requires
 empty-at-requires c κs =
-    let s = c .before .before .before .before .before in
-    let a = c .before .before .before .before .aim in
+    let after-aim : tie.After-aim = search in
+    let s = after-aim .before in
+    let a = after-aim .aim in
     let at : Place = record { series = s .args .series; set = s .args .set; point = s .args .point } in
-    place-small (s .args .self) (sized s) at (a .result .place) (aim-on (s .args .self) at (a .result .place) (sym (ap (λ (m : Aim). m .refusal) (a .ensures)) ∙ c .before .before .if1 .left) (ap (λ (m : Aim). m .place) (a .ensures)))
+    place-small _ (sized s) at _ (aim-on _ at _ (sym (ap (λ (m : Aim). m .refusal) (a .ensures)) ∙ c .before .before .if1 .left) (ap (λ (m : Aim). m .place) (a .ensures)))
 
 returns-2 : tie.Need-returns-2
 returns-2 c =
-    sought-there _ _ _ _ _ _ (c .before .before .before .before .before .before .aim .ensures) (c .before .before .before .before .if1 .left) (c .before .empty-at .ensures) true (c .if2 .taken)
+    let else1 : tie.Else1 = search in
+    sought-there _ _ _ _ _ _ (else1 .before .before .aim .ensures) (else1 .if1 .left) (c .before .empty-at .ensures) true (c .if2 .taken)
 
 returns-3 : tie.Need-returns-3
 returns-3 c =
-    sought-there _ _ _ _ _ _ (c .before .before .before .before .before .before .aim .ensures) (c .before .before .before .before .if1 .left) (c .before .empty-at .ensures) false (c .if2 .left)
+    let else1 : tie.Else1 = search in
+    sought-there _ _ _ _ _ _ (else1 .before .before .aim .ensures) (else1 .if1 .left) (c .before .empty-at .ensures) false (c .if2 .left)
 
 pub sought-spec : {M : Type 1} → statement M
 sought-spec = tie.close (tie.spec aim-requires returns empty-at-requires returns-2 returns-3)

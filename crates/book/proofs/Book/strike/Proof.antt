@@ -13,19 +13,16 @@ in-form-requires : tie.Need-in-form-requires
 in-form-requires c κs = search needs
 
 returns : tie.Need-returns
-returns c =
-    strike-closed _ (sized (c .before .before .before .before)) (known (c .before .before .before .in-form .ensures) (c .before .before .if1 .taken)) (c .if2 .taken)
+returns c = search (known, strike-closed, sized, needs)
 
 closed-requires : tie.Need-closed-requires
 closed-requires c κs = search needs
 
 returns-2 : tie.Need-returns-2
-returns-2 c =
-    struck (c .before .before .before .before .before .args .self) (sized (c .before .before .before .before .before)) (known (c .before .before .before .before .in-form .ensures) (c .before .before .before .if1 .taken)) (c .closed .result) (c .before .if2 .left) (c .closed .ensures)
+returns-2 c = search (known, struck, sized, needs)
 
 returns-3 : tie.Need-returns-3
-returns-3 c =
-    step-unformed _ _ (known (c .before .in-form .ensures) (c .if1 .left))
+returns-3 c = search (known, step-unformed, needs)
 
 pub strike-spec : {M : Type 1} → statement M
 strike-spec = tie.close (tie.spec in-form-requires returns closed-requires returns-2 returns-3)

@@ -18,26 +18,25 @@ in-form-requires : tie.Need-in-form-requires
 in-form-requires c κs = search needs
 
 returns : tie.Need-returns
-returns c =
-    back-closed _ (sized (c .before .before .before .before)) (known (c .before .before .before .in-form .ensures) (c .before .before .if1 .taken)) (c .if2 .taken)
+returns c = search (known, back-closed, sized, needs)
 
 returns-2 : tie.Need-returns-2
-returns-2 c =
-    step-nothing _ (sized (c .before .before .before .before .before .before)) (known (c .before .before .before .before .before .in-form .ensures) (c .before .before .before .before .if1 .taken)) (c .before .before .if2 .left) (c .if3 .taken)
+returns-2 c = search (known, step-nothing, sized, needs)
 
 undone-requires : tie.Need-undone-requires
 undone-requires c κs =
-    let z : 0 < c .before .before .before .before .before .before .args .self .kept = omega arith in
-    (back-small (c .before .before .before .before .before .before .args .self) (sized (c .before .before .before .before .before .before)) (known (c .before .before .before .before .before .in-form .ensures) (c .before .before .before .before .if1 .taken)) (c .before .before .if2 .left) z, z)
+    let then1 : tie.Then1 = search in
+    let z : 0 < then1 .before .before .args .self .kept = omega arith in
+    (back-small _ (sized (then1 .before .before)) (known (then1 .before .in-form .ensures) (then1 .if1 .taken)) (c .before .before .if2 .left) z, z)
 
 returns-3 : tie.Need-returns-3
 returns-3 c =
-    let z : 0 < c .before .before .before .before .before .before .before .args .self .kept = omega arith in
-    ap (λ (b : Book). step 0 b) (c .undone .ensures) ∙ step-undone (c .before .before .before .before .before .before .before .args .self) (sized (c .before .before .before .before .before .before .before)) (known (c .before .before .before .before .before .before .in-form .ensures) (c .before .before .before .before .before .if1 .taken)) (c .before .before .before .if2 .left) z
+    let then1 : tie.Then1 = search in
+    let z : 0 < then1 .before .before .args .self .kept = omega arith in
+    ap (λ (b : Book). step 0 b) (c .undone .ensures) ∙ step-undone _ (sized (then1 .before .before)) (known (then1 .before .in-form .ensures) (then1 .if1 .taken)) (c .before .before .before .if2 .left) z
 
 returns-4 : tie.Need-returns-4
-returns-4 c =
-    step-unformed _ _ (known (c .before .in-form .ensures) (c .if1 .left))
+returns-4 c = search (known, step-unformed, needs)
 
 pub take-back-spec : {M : Type 1} → statement M
 take-back-spec =

@@ -1,4 +1,3 @@
-use mathlib.Core.Path.{refl}
 use Rattle.book.specs.Steps.{undoneOf}
 use Rattle.book.proofs.Meaning.{book-parts}
 use borrow.Author.Needs.{needs}
@@ -16,8 +15,7 @@ sub-self c = search needs
 
 returns : tie.Need-returns
 unfolding undoneOf
-returns c =
-    book-parts _ _ _ _ _ _ _ _ _ _ refl refl (c .before .before .take-back .ensures) refl (c .before .pop .ensures)
+returns c = search (book-parts, needs)
 
 pub undone-spec : {M : Type 1} → statement M
 undone-spec = tie.close (tie.spec take-back-requires pop-requires sub-self returns)

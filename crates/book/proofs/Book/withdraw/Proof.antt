@@ -16,20 +16,16 @@ sought-requires : tie.Need-sought-requires
 sought-requires c κs = search needs
 
 returns : tie.Need-returns
-returns c =
-    withdraw-refused _ (sized (c .before .before .before)) _ (c .before .before .sought .result) (c .before .before .sought .ensures) (c .if1 .taken)
+returns c = search (withdraw-refused, sized, needs)
 
 changed-requires : tie.Need-changed-requires
-changed-requires c κs =
-    let s = c .before .before .before in
-    let at : Place = record { series = s .args .series; set = s .args .set; point = s .args .point } in
-    sought-small (s .args .self) at 7 0 (sized s) (c .before .before .sought .result) (c .before .before .sought .ensures) (c .if1 .left)
+changed-requires c κs = search (sought-small, sized, needs)
 
 returns-2 : tie.Need-returns-2
 returns-2 c =
-    let s = c .before .before .before .before in
-    let at : Place = record { series = s .args .series; set = s .args .set; point = s .args .point } in
-    ap (λ (b : Book). step 0 b) (c .changed .ensures) ∙ withdrawn (s .args .self) (sized s) at (c .before .before .before .sought .result) (c .before .before .before .sought .ensures) (c .before .if1 .left)
+    let start : tie.Start = search in
+    let at : Place = record { series = start .args .series; set = start .args .set; point = start .args .point } in
+    ap (λ (b : Book). step 0 b) (c .changed .ensures) ∙ withdrawn _ (sized start) at _ (c .before .before .before .sought .ensures) (c .before .if1 .left)
 
 pub withdraw-spec : {M : Type 1} → statement M
 withdraw-spec = tie.close (tie.spec sought-requires returns changed-requires returns-2)
