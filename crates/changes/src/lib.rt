@@ -7,6 +7,11 @@ ghost use Rattle.changes.specs.Kept.{pushed, popped, more};
 use image::Layout;
 use procedure::Procedure;
 
+// The words of one kept change, and of all others.
+const ONE: usize = 4;
+
+const OTHERS: usize = Layout::CHANGES - ONE;
+
 // The words of from, in order.
 fn copy(from: &[u64], out: &mut [u64])
     requires { ⌜ length (now out) ≡ length (now from) ⌝ }
@@ -28,7 +33,7 @@ fn push(old: [u64; Layout::CHANGES], place: u64, x: u64, y: u64, h: u64) -> [u64
     out[1] = x;
     out[2] = y;
     out[3] = h;
-    copy(&old[0..124], &mut out[4..128]);
+    copy(&old[0..OTHERS], &mut out[ONE..Layout::CHANGES]);
     out
 }
 
@@ -50,7 +55,7 @@ pub fn pop(old: [u64; Layout::CHANGES]) -> [u64; Layout::CHANGES]
     ensures { λ r. ⌜ r ≡ popped old ⌝ }
 {
     let mut out = [0u64; Layout::CHANGES];
-    copy(&old[4..128], &mut out[0..124]);
+    copy(&old[ONE..Layout::CHANGES], &mut out[0..OTHERS]);
     out
 }
 

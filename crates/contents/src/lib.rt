@@ -26,7 +26,7 @@ fn formed(s: &[u8], terms: &mut [u64], cells: &mut [u64]) -> bool
     let Counts::Of(a, b, c, i) = table::table_at(s) else {
         return false;
     };
-    let Read::At(_, j) = lines::numbers_at(s, i, 12, terms, 0) else {
+    let Read::At(_, j) = lines::numbers_at(s, i, Layout::TERMS, terms, 0) else {
         return false;
     };
     let Read::At(_, k) = bodies::bodies_at(s, j, a, b, c, cells) else {

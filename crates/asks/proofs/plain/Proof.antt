@@ -1,3 +1,5 @@
+-- `asks::plain`: each part of the answer, and the verdicts as marks.
+-- Assumes nothing.
 use Rattle.asks.specs.Answers.{plainOf}
 use borrow.Author.Needs.{needs}
 use Rattle.asks.proofs.plain.Statement.{statement}

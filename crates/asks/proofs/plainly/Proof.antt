@@ -1,3 +1,5 @@
+-- `asks::plainly`: by whether they are the same.
+-- Assumes nothing.
 use Rattle.asks.specs.Answers.{plainlyOf}
 use Rattle.asks.proofs.plainly.Statement.{statement}
 use Rattle.asks.proofs.plainly.Tie as tie

@@ -1,3 +1,5 @@
+-- `asks::rtk_changes`: the book found and asked; the refusal is turned by its number.
+-- Assumes nothing.
 use Rattle.paper.specs.Calls.{changes}
 use Rattle.asks.proofs.Asked.{counts, count-asked}
 use borrow.Author.Needs.{needs}

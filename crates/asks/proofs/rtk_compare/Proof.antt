@@ -1,3 +1,5 @@
+-- `asks::rtk_compare`: both books found and asked; the refusal is turned by each number.
+-- Assumes nothing.
 use mathlib.Core.Path.{_∙_}
 use Rattle.asks.proofs.Compared.{comparison-asked}
 use borrow.Author.Needs.{needs}

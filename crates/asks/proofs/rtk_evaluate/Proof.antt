@@ -1,3 +1,5 @@
+-- `asks::rtk_evaluate`: the book found and asked; the refusal is turned by its number.
+-- Assumes nothing.
 use mathlib.Core.Path.{_∙_}
 use Rattle.paper.specs.Calls.{evaluate}
 use Rattle.asks.proofs.Asked.{evaluates, evaluation-asked}

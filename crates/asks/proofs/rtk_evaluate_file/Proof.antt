@@ -1,3 +1,5 @@
+-- `asks::rtk_evaluate_file`: the evaluation of a file, as the record of the boundary.
+-- Assumes nothing.
 use mathlib.Core.Path.{ap, _∙_}
 use Rattle.evaluation.specs.Evaluating.{judgementOf}
 use Rattle.doubles.specs.Doubles.{doubled}

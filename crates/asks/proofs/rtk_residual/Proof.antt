@@ -1,3 +1,5 @@
+-- `asks::rtk_residual`: the book found and asked; the refusal is turned by its number.
+-- Assumes nothing.
 use Rattle.paper.specs.Units.{Place}
 use Rattle.paper.specs.Calls.{residual}
 use Rattle.asks.proofs.Asked.{residues, lengths-asked}

@@ -1,3 +1,5 @@
+-- `book::closed`: every word is 0.
+-- Assumes nothing.
 use mathlib.Core.Path.{refl}
 use Rattle.book.specs.Meaning.{bookOf}
 use Rattle.book.proofs.closed.Statement.{statement}

@@ -1,3 +1,5 @@
+-- `book::filled`: part by part.
+-- Assumes nothing.
 use mathlib.Core.Path.{refl}
 use Rattle.book.specs.Steps.{filledOf}
 use Rattle.book.proofs.filled.Statement.{statement}

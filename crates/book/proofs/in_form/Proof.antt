@@ -1,3 +1,5 @@
+-- `book::in_form`: the form of its words.
+-- Assumes nothing.
 use Rattle.book.specs.Meaning.{bookForm}
 use borrow.Author.Needs.{needs}
 use Rattle.book.proofs.in_form.Statement.{statement}

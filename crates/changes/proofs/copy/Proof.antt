@@ -1,3 +1,5 @@
+-- `changes::copy`: the words before i are copied.
+-- Assumes nothing.
 use Prim.Native.Nat.{_≤_, _<_, _-_}
 use mathlib.Core.Path.{_≡_, refl, _∙_}
 use mathlib.Core.List.{_++_, append-nil}

@@ -1,3 +1,5 @@
+-- `changes::one_more`: by whether there is room for one more.
+-- Assumes nothing.
 use borrow.Author.Tests.{lt-ltb, le-ltb}
 use borrow.Author.Needs.{needs}
 use Rattle.changes.proofs.one_more.Statement.{statement}

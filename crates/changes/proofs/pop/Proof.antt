@@ -1,3 +1,5 @@
+-- `changes::pop`: all but the first change, and zeros behind them.
+-- Assumes nothing.
 use Prim.Native.Nat.{_-_, _≤_}
 use native.Mathlib.Omega.{arith}
 use lib.ListN.{length, drop, length-drop}

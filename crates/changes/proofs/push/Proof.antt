@@ -1,3 +1,5 @@
+-- `changes::push`: the change, and all but the last behind it.
+-- Assumes nothing.
 use Rattle.changes.proofs.Turns.{pushed-eq}
 use borrow.Author.Needs.{needs}
 use Rattle.changes.proofs.push.Statement.{statement}

@@ -15,7 +15,7 @@ same-population-requires : tie.Need-same-population-requires
 same-population-requires c κs = search needs
 
 returns-2 : tie.Need-returns-2
-returns-2 c = search (sums-same, needs)
+returns-2 c = sums-same _ _ _ _ (c .before .if1 .left) (c .same-population .ensures)
 
 pub by-sums-spec : {M : Type 1} → statement M
 by-sums-spec =

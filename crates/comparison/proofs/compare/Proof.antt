@@ -31,7 +31,10 @@ returns-2 c =
     c .not-compared2 .ensures ∙ short-second _ _ _ _ _ (p .0 .0) (p .0 .1) (known (after-any-empty .any-empty .ensures) (c .before .before .before .if1 .left)) (known (c .before .before .any-empty2 .ensures) (c .before .if2 .taken))
 
 both-screened-requires : tie.Need-both-screened-requires
-both-screened-requires c κs = search (known, ready, needs)
+both-screened-requires c κs =
+    let start : tie.Start = search in
+    let p = start .pre in
+    (ready _ _ (p .1 .0) (p .1 .1) (known (c .before .before .before .any-empty .ensures) (c .before .before .if1 .left)), ready _ _ (p .2 .0) (p .2 .1) (known (c .before .any-empty2 .ensures) (c .if2 .left)))
 
 returns-3 : tie.Need-returns-3
 returns-3 c =

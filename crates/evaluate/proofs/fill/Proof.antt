@@ -1,3 +1,5 @@
+-- `evaluate::fill`: what was read lies within the buffer.
+-- Assumes nothing.
 use borrow.Author.Needs.{needs}
 use Prim.Native.Nat.{_+_, _≤_}
 use native.Mathlib.Omega.{arith}

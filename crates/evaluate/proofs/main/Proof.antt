@@ -1,3 +1,5 @@
+-- `evaluate::main`: what was read lies within the buffer.
+-- Assumes nothing.
 use Prim.Native.Nat.{_+_, _≤_}
 use native.Mathlib.Omega.{arith}
 use mathlib.Core.Path.{_≡_, sym, subst}

@@ -1,3 +1,5 @@
+-- `evaluate::print`: the report lies within the bytes that hold it.
+-- Assumes nothing.
 use mathlib.Core.Path.{sym}
 use lib.Seq.{length-take-le}
 use Rattle.report.proofs.Pieces.{held-room}

@@ -11,7 +11,7 @@ any-empty-requires : tie.Need-any-empty-requires
 any-empty-requires c κs = search needs
 
 returns : tie.Need-returns
-returns c = search (known, short-off, needs)
+returns c = short-off _ _ (known (c .before .any-empty .ensures) (c .if1 .taken))
 
 first-suspect-requires : tie.Need-first-suspect-requires
 first-suspect-requires c κs = search (known, ready, needs)

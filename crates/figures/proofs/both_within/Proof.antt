@@ -26,7 +26,9 @@ within-by-requires-2 c κs =
 
 returns : tie.Need-returns
 unfolding termsOf
-returns c = search (both-is, needs)
+returns c =
+    let after-sums : tie.After-sums = search in
+    both-is _ _ _ _ _ (after-sums .sums .ensures .0) (c .before .before .within-by .ensures) (c .within-by2 .ensures)
 
 pub both-within-spec : {M : Type 1} → statement M
 both-within-spec =

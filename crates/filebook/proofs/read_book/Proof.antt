@@ -1,3 +1,5 @@
+-- `filebook::read_book`: by what the file holds: FORM, TERMS, FAR, or its book.
+-- Assumes nothing.
 use mathlib.Core.Path.{ap, _∙_}
 use Rattle.form.proofs.Laws.{known}
 use Rattle.book.specs.declared.Book.{Book}

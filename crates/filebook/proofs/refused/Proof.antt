@@ -1,3 +1,5 @@
+-- `filebook::refused`: a closed book beside the number.
+-- Assumes nothing.
 use borrow.Author.Needs.{needs}
 use Rattle.filebook.proofs.refused.Statement.{statement}
 use Rattle.filebook.proofs.refused.Tie as tie

@@ -1,3 +1,5 @@
+-- `filequestions::evaluate_file`: the judgement in millimetres.
+-- Assumes nothing.
 use mathlib.Core.Path.{ap, _∙_}
 use Rattle.doubles.specs.Doubles.{doubled}
 use borrow.Author.Needs.{needs}

@@ -1,3 +1,5 @@
+-- `filequestions::judge_file`: by whether the file is refused.
+-- Assumes nothing.
 use mathlib.Core.Path.{_∙_}
 use Rattle.filequestions.proofs.Ways.{file-refused, file-judged}
 use borrow.Author.Needs.{needs}

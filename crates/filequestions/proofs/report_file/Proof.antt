@@ -1,3 +1,5 @@
+-- `filequestions::report_file`: the text of the judgement.
+-- Assumes nothing.
 use mathlib.Core.Path.{ap, _∙_}
 use Rattle.report.specs.Given.{held}
 use Rattle.filequestions.proofs.Numbers.{file-prints, printed-is, printed-fits}

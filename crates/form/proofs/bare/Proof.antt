@@ -1,3 +1,5 @@
+-- `form::bare`: its tests joined.
+-- Assumes nothing.
 use Rattle.ranges.proofs.Laws.{and-same}
 use Rattle.form.specs.Whole.{bare}
 use borrow.Author.Needs.{needs}

@@ -1,3 +1,5 @@
+-- `form::in_form`: by the flag: closed, open, or neither.
+-- Assumes nothing.
 use Rattle.form.proofs.Whole.{form-closed, form-open, form-neither}
 use borrow.Author.Needs.{needs}
 use Rattle.form.proofs.in_form.Statement.{statement}

@@ -1,3 +1,5 @@
+-- `form::sound`: by the count, then its tests joined.
+-- Assumes nothing.
 use Rattle.form.proofs.Whole.{sound-many, sound-is}
 use borrow.Author.Needs.{needs}
 use Rattle.form.proofs.sound.Statement.{statement}
@@ -19,7 +21,9 @@ all-stand-requires : tie.Need-all-stand-requires
 all-stand-requires c κs = search needs
 
 returns-2 : tie.Need-returns-2
-returns-2 c = search (sound-is, needs)
+returns-2 c =
+    let else1 : tie.Else1 = search in
+    sound-is _ _ _ _ (else1 .if1 .left) (c .before .before .zero-from .ensures) (c .before .in-range .ensures) (c .all-stand .ensures)
 
 pub sound-spec : {M : Type 1} → statement M
 sound-spec =

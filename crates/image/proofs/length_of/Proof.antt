@@ -1,3 +1,5 @@
+-- `image::length_of`: the word less that of the length 0.
+-- Assumes nothing.
 use mathlib.Core.Path.{_≡_, _∙_}
 use native.Mathlib.Omega.{arith}
 use lib.IntN.{pos}

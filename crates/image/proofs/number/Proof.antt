@@ -1,3 +1,5 @@
+-- `image::number`: sheet order, step by step.
+-- Assumes nothing.
 use borrow.Author.Needs.{needs}
 use Rattle.paper.specs.Units.{inOrder}
 use Rattle.image.proofs.number.Statement.{statement}

@@ -1,3 +1,5 @@
+-- `image::place_of`: by whether the place is in the sheet.
+-- Assumes nothing.
 use mathlib.Core.Path.{_≡_, _∙_}
 use mathlib.Core.Bool.{_&&_}
 use borrow.Author.Needs.{needs}

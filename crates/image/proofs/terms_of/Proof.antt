@@ -1,3 +1,5 @@
+-- `image::terms_of`: word by word.
+-- Assumes nothing.
 use Rattle.image.proofs.Lengths.{twelve-words, repaired}
 use borrow.Author.Needs.{needs}
 use Rattle.image.proofs.terms_of.Statement.{statement}

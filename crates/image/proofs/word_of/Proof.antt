@@ -1,3 +1,5 @@
+-- `image::word_of`: by whether the number is a length.
+-- Assumes nothing.
 use mathlib.Core.Path.{sym, _∙_}
 use native.Mathlib.Omega.{arith}
 use Prim.Native.Nat.{_≤_, _<_}

@@ -1,3 +1,5 @@
+-- `lent::formed`: every book, from the first to the last.
+-- Assumes nothing.
 use Rattle.lent.specs.Image.{inForm, formBetween}
 use borrow.Author.Needs.{needs}
 use Rattle.lent.proofs.formed.Statement.{statement}

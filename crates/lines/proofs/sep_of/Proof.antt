@@ -1,6 +1,6 @@
-use borrow.Author.Needs.{needs}
 -- `lines::sep_of`: by whether more are to come.
 -- Assumes nothing.
+use borrow.Author.Needs.{needs}
 use Rattle.lines.proofs.Rows.{sep-last, sep-other}
 use Rattle.lines.proofs.sep_of.Statement.{statement}
 use Rattle.lines.proofs.sep_of.Tie as tie

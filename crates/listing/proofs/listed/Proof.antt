@@ -1,3 +1,5 @@
+-- `listing::listed`: the numbers so far are the list of the books before k.
+-- Assumes nothing.
 use borrow.Author.Needs.{needs}
 use Prim.Native.Nat.{_≤_, _<_, _-_}
 use native.Mathlib.Omega.{arith}
@@ -62,7 +64,14 @@ loop-less-2 : tie.Need-loop-less-2 Inv-loop μ-loop
 loop-less-2 c = search needs
 
 loop-again-2 : tie.Need-loop-again-2 Inv-loop μ-loop
-loop-again-2 c = search (known, list-same, needs)
+loop-again-2 c =
+    let l = c .before .before .before .loop in
+    let h : l .k < BOOKS = c .before .before .loop-test .taken in (
+      omega arith,
+      omega arith,
+      l .inv .2,
+      list-same _ _ h _ (l .inv .3) (known (c .before .on-list .ensures) (c .if1 .left)),
+    )
 
 returns : tie.Need-returns Inv-loop μ-loop
 unfolding passing

@@ -1,3 +1,5 @@
+-- `listing::on_list`: by whether the book is open.
+-- Assumes nothing.
 use native.Mathlib.Omega.{arith}
 use mathlib.Core.Path.{_∙_}
 use Rattle.lent.proofs.Image.{form-length, form-at}
@@ -15,7 +17,8 @@ load-requires c κs =
     omega (arith, form-length _ (c .before .pre .0), c .before .pre .1)
 
 returns : tie.Need-returns
-returns c = search (closed-not, needs)
+returns c =
+    closed-not _ _ (c .before .before .before .load .ensures) (c .if1 .taken)
 
 passes-requires : tie.Need-passes-requires
 passes-requires c κs =

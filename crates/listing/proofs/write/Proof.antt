@@ -1,3 +1,5 @@
+-- `listing::write`: the bytes before i are written.
+-- Assumes nothing.
 use borrow.Author.Needs.{needs}
 use Prim.Native.Nat.{_≤_, _<_, _-_}
 use native.Mathlib.Omega.{arith}

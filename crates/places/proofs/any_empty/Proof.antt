@@ -1,3 +1,5 @@
+-- `places::any_empty`: what is left to look at gives what the whole gives.
+-- Assumes nothing.
 use borrow.Author.Needs.{needs}
 use native.Mathlib.Omega.{arith}
 use mathlib.Core.Path.{_≡_, sym, _∙_}

@@ -1,3 +1,5 @@
+-- `places::empty_at`: its three words are 0.
+-- Assumes nothing.
 use Rattle.image.proofs.Places.{empty-spot}
 use borrow.Author.Needs.{needs}
 use Rattle.places.proofs.empty_at.Statement.{statement}

@@ -1,3 +1,5 @@
+-- `places::mark_at`: the mark of whether it is empty.
+-- Assumes nothing.
 use mathlib.Core.Path.{_∙_}
 use borrow.Author.Needs.{needs}
 use Rattle.places.proofs.mark_at.Statement.{statement}

@@ -1,3 +1,5 @@
+-- `places::near_at`: nothing there, or a reading near its point.
+-- Assumes nothing.
 use Rattle.places.proofs.Laws.{spot-near}
 use borrow.Author.Needs.{needs}
 use Rattle.places.proofs.near_at.Statement.{statement}

@@ -1,3 +1,5 @@
+-- `places::survey`: the marks before this set are made, and near tells of the readings before it.
+-- Assumes nothing.
 use native.Mathlib.Omega.{arith}
 use borrow.Author.Needs.{needs}
 use mathlib.Core.Path.{_≡_, sym, _∙_}

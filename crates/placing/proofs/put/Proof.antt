@@ -1,3 +1,5 @@
+-- `placing::put`: three words written are three words pasted.
+-- Assumes nothing.
 use native.Mathlib.Omega.{arith}
 use mathlib.Core.Path.{_≡_}
 use lib.ListN.{length}

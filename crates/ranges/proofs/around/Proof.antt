@@ -1,3 +1,5 @@
+-- `ranges::around`: the tests of three axes joined.
+-- Assumes nothing.
 use Rattle.paper.specs.Units.{within}
 use Rattle.ranges.proofs.Laws.{and-same}
 use borrow.Author.Needs.{needs}

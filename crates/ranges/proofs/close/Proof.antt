@@ -1,3 +1,5 @@
+-- `ranges::close`: by which of the two is greater.
+-- Assumes nothing.
 use borrow.Author.Needs.{needs}
 use Rattle.ranges.proofs.Laws.{close-less, close-more}
 use Rattle.ranges.proofs.close.Statement.{statement}

@@ -1,3 +1,5 @@
+-- `ranges::from_1_to`: a test of the length as one of its word.
+-- Assumes nothing.
 use Rattle.ranges.proofs.Laws.{one-is}
 use borrow.Author.Needs.{needs}
 use Rattle.ranges.proofs.from_1_to.Statement.{statement}

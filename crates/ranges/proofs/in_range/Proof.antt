@@ -1,3 +1,5 @@
+-- `ranges::in_range`: the tests of all terms joined.
+-- Assumes nothing.
 use mathlib.Core.Path.{_∙_}
 use Rattle.ranges.proofs.Laws.{and-same, from-zero, range-is}
 use borrow.Author.Needs.{needs}

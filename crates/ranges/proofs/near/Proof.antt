@@ -1,3 +1,5 @@
+-- `ranges::near`: around the approximate values of the place's point.
+-- Assumes nothing.
 use mathlib.Core.Path.{_∙_}
 use Rattle.image.specs.Lengths.{tripleAt}
 use Rattle.ranges.proofs.Laws.{near-at-point}

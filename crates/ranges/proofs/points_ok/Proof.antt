@@ -1,3 +1,5 @@
+-- `ranges::points_ok`: the tests of both points joined.
+-- Assumes nothing.
 use mathlib.Core.Path.{_∙_}
 use Rattle.image.specs.Lengths.{tripleAt}
 use Rattle.ranges.proofs.Laws.{and-same, earth}

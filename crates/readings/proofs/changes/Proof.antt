@@ -1,3 +1,5 @@
+-- `readings::changes`: by the form, and whether the book is open.
+-- Assumes nothing.
 use mathlib.Core.Path.{_∙_}
 use Rattle.form.proofs.Laws.{known}
 use Rattle.book.proofs.Meaning.{Sized}

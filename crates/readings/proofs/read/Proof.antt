@@ -1,3 +1,5 @@
+-- `readings::read`: by what the call met; else the three lengths that stand there.
+-- Assumes nothing.
 use Prim.Native.Nat.{_*_, _<_}
 use native.Mathlib.Omega.{arith}
 use mathlib.Core.Path.{_≡_, _∙_}

@@ -1,3 +1,5 @@
+-- `register::rtk_check`: by the form of the whole register.
+-- Assumes nothing.
 use Rattle.form.proofs.Laws.{known}
 use borrow.Author.Needs.{needs}
 use Rattle.register.proofs.rtk_check.Statement.{statement}

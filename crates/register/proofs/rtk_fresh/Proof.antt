@@ -1,3 +1,5 @@
+-- `register::rtk_fresh`: refused by the length alone; otherwise every byte is 0.
+-- Assumes nothing.
 use Rattle.register.proofs.Ways.{fresh-refused, fresh-done}
 use borrow.Author.Needs.{needs}
 use Rattle.register.proofs.rtk_fresh.Statement.{statement}

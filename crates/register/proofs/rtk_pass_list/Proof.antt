@@ -1,3 +1,5 @@
+-- `register::rtk_pass_list`: by the form, and by whether the list has room.
+-- Assumes nothing.
 use native.Mathlib.Omega.{arith}
 use mathlib.Core.Path.{_≡_, sym, _∙_}
 use lib.Seq.{length-take-le}

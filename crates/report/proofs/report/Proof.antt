@@ -13,7 +13,8 @@ put-verdicts-requires : tie.Need-put-verdicts-requires
 put-verdicts-requires c κs = search (long-verdicts, needs)
 
 returns : tie.Need-returns
-returns c = search (text-accepted, held-is, needs)
+returns c =
+    held-is _ (text-accepted _ _ _ _ (c .before .before .before .if1 .taken)) (c .before .put-verdicts .ensures)
 
 slice-aggregate-put-refusal : tie.Need-slice-aggregate-put-refusal
 slice-aggregate-put-refusal c = search needs
@@ -22,7 +23,8 @@ put-refusal-requires : tie.Need-put-refusal-requires
 put-refusal-requires c κs = search (long-refusal, needs)
 
 returns-2 : tie.Need-returns-2
-returns-2 c = search (text-refused, held-is, needs)
+returns-2 c =
+    held-is _ (text-refused _ _ _ _ (c .before .before .before .if1 .left)) (c .before .put-refusal .ensures)
 
 pub report-spec : {M : Type 1} → statement M
 report-spec =

@@ -1,3 +1,5 @@
+-- `shelf::found`: by the form of the others.
+-- Assumes nothing.
 use Rattle.form.proofs.Laws.{known}
 use Rattle.shelf.specs.Steps.{foundOf}
 use borrow.Author.Needs.{needs}

@@ -1,3 +1,5 @@
+-- `shelf::others_formed`: the books before it and those behind it; all where it is none.
+-- Assumes nothing.
 use native.Mathlib.Omega.{arith}
 use Rattle.paper.specs.Procedure.{BOOKS}
 use Rattle.paper.proofs.Tests.{among}

@@ -1,3 +1,5 @@
+-- `shelf::picked`: by the length, and whether the number is a book's.
+-- Assumes nothing.
 use native.Mathlib.Omega.{arith}
 use borrow.Author.Tests.{eq-eqb, ne-eqb}
 use Rattle.paper.specs.Procedure.{BOOKS}

@@ -1,3 +1,5 @@
+-- `shelf::put_back`: by whether the call is refused.
+-- Assumes nothing.
 use native.Mathlib.Omega.{arith}
 use Rattle.shelf.proofs.Ways.{away-not, kept-back, written}
 use borrow.Author.Needs.{needs}

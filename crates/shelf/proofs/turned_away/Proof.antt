@@ -1,3 +1,5 @@
+-- `shelf::turned_away`: REGISTER, then PLACE, then what the book met.
+-- Assumes nothing.
 use borrow.Author.Tests.{eq-eqb, ne-eqb}
 use Rattle.form.proofs.Laws.{known}
 use Rattle.shelf.specs.Steps.{turnedAway}

@@ -1,3 +1,5 @@
+-- `standing::all_stand`: the marks are those of the places with the changes before j taken back.
+-- Assumes nothing.
 use mir.Syntax.{w64}
 use mir.Val.{Fits}
 use Prim.Native.Nat.{ℕ, _-_, _*_, _≤_, _<_}

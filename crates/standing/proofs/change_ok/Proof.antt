@@ -1,3 +1,5 @@
+-- `standing::change_ok`: by its place, and whether what it puts back is empty.
+-- Assumes nothing.
 use mathlib.Core.Path.{_∙_}
 use Rattle.standing.proofs.Marked.{marked-outside, marked-empty, marked-filled}
 use borrow.Author.Needs.{needs}

@@ -1,3 +1,5 @@
+-- `stored::in_form`: loaded, and its words held to the form.
+-- Assumes nothing.
 use mathlib.Core.Path.{ap, _∙_}
 use Rattle.book.specs.Meaning.{bookForm}
 use borrow.Author.Needs.{needs}

@@ -1,3 +1,5 @@
+-- `stored::load`: part by part.
+-- Assumes nothing.
 use Rattle.stored.proofs.Stored.{book-eq}
 use borrow.Author.Needs.{needs}
 use Rattle.stored.proofs.load.Statement.{statement}

@@ -1,3 +1,5 @@
+-- `stored::store`: its parts, pasted one behind another.
+-- Assumes nothing.
 use Rattle.stored.proofs.Stored.{stored}
 use borrow.Author.Needs.{needs}
 use Rattle.stored.proofs.store.Statement.{statement}

@@ -1,3 +1,5 @@
+-- `stored::store_both`: a word, and a row of words behind it.
+-- Assumes nothing.
 use Rattle.stored.proofs.Stored.{both-stored}
 use borrow.Author.Needs.{needs}
 use Rattle.stored.proofs.store_both.Statement.{statement}

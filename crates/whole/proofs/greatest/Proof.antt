@@ -1,3 +1,5 @@
+-- `whole::greatest`: the root of a quotient.
+-- Assumes nothing.
 use Prim.Native.Nat.{ℕ, _/_, _^_, _<_}
 use native.Mathlib.Omega.{arith}
 use native.Mathlib.Nat.{lt-of-le-of-lt, div-le-self, le-trans}

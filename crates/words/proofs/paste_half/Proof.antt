@@ -1,3 +1,5 @@
+-- `words::paste_half`: four bytes written are four bytes pasted.
+-- Assumes nothing.
 use native.Mathlib.Omega.{arith}
 use lib.ListN.{length-set}
 use Rattle.words.proofs.Words.{four-pasted}

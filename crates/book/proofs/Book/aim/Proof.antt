@@ -1,3 +1,5 @@
+-- `book::Book::aim`: by the form, the place, and whether the book is open.
+-- Assumes nothing.
 use Rattle.paper.specs.Units.{Place}
 use native.Mathlib.Omega.{arith}
 use mathlib.Core.Path.{_∙_}

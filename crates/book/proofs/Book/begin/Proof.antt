@@ -1,3 +1,5 @@
+-- `book::Book::begin`: terms of any size are opened as their words are.
+-- Assumes nothing.
 use Rattle.book.proofs.Meaning.{Sized}
 use Rattle.book.proofs.Opened.{begin-given}
 use borrow.Author.Needs.{needs}

@@ -1,3 +1,5 @@
+-- `book::Book::begin_words`: by the form, whether the book is open, and the ranges.
+-- Assumes nothing.
 use mathlib.Core.Path.{_≡_, _∙_}
 use lib.ListN.{length}
 use Rattle.form.proofs.Laws.{known}
@@ -15,7 +17,9 @@ in-form-requires : tie.Need-in-form-requires
 in-form-requires c κs = search needs
 
 returns : tie.Need-returns
-returns c = search (known, begin-open, sized, needs)
+returns c =
+    let start : tie.Start = search in
+    begin-open _ (sized start) (known (c .before .before .before .in-form .ensures) (c .before .before .if1 .taken)) _ (c .if2 .taken)
 
 in-range-requires : tie.Need-in-range-requires
 in-range-requires c κs = search needs
@@ -32,7 +36,9 @@ returns-2 c =
     begun-with _ (sized s) (known (after-in-form .in-form .ensures) (else2 .before .before .if1 .taken)) _ _ (else2 .if2 .left) (known (c .before .before .in-range .ensures) (c .before .if3 .taken)) (c .filled .ensures ∙ blank-words _ l)
 
 returns-3 : tie.Need-returns-3
-returns-3 c = search (known, begin-range, sized, needs)
+returns-3 c =
+    let then1 : tie.Then1 = search in
+    begin-range _ (sized (then1 .before .before)) (known (then1 .before .in-form .ensures) (then1 .if1 .taken)) _ (c .before .before .before .if2 .left) (known (c .before .in-range .ensures) (c .if3 .left))
 
 returns-4 : tie.Need-returns-4
 returns-4 c = search (known, step-unformed, needs)

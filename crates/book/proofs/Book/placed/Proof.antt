@@ -1,3 +1,5 @@
+-- `book::Book::placed`: by what was met before, and whether the reading is near.
+-- Assumes nothing.
 use Rattle.image.proofs.Lengths.{repaired}
 use Rattle.book.proofs.Changed.{placed-refused, placed-near, placed-far}
 use borrow.Author.Needs.{needs}

@@ -1,3 +1,5 @@
+-- `book::Book::sought`: by what was met before, and whether the place is empty.
+-- Assumes nothing.
 use mathlib.Core.Path.{sym, ap, _∙_}
 use mathlib.Core.Bool.{true, false}
 use Rattle.paper.specs.Units.{Place}

@@ -1,3 +1,5 @@
+-- `book::Book::strike`: by the form, and whether the book is open.
+-- Assumes nothing.
 use Rattle.form.proofs.Laws.{known}
 use Rattle.book.proofs.Meaning.{Sized}
 use Rattle.book.proofs.Steps.{step-unformed}

@@ -1,3 +1,5 @@
+-- `book::Book::take_back`: by the form, whether the book is open, and the count.
+-- Assumes nothing.
 use native.Mathlib.Omega.{arith}
 use mathlib.Core.Path.{ap, _∙_}
 use Prim.Native.Nat.{_<_}
@@ -21,7 +23,9 @@ returns : tie.Need-returns
 returns c = search (known, back-closed, sized, needs)
 
 returns-2 : tie.Need-returns-2
-returns-2 c = search (known, step-nothing, sized, needs)
+returns-2 c =
+    let then1 : tie.Then1 = search in
+    step-nothing _ (sized (then1 .before .before)) (known (then1 .before .in-form .ensures) (then1 .if1 .taken)) (c .before .before .if2 .left) (c .if3 .taken)
 
 undone-requires : tie.Need-undone-requires
 undone-requires c κs =

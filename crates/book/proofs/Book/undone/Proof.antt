@@ -1,3 +1,5 @@
+-- `book::Book::undone`: part by part.
+-- Assumes nothing.
 use Rattle.book.specs.Steps.{undoneOf}
 use Rattle.book.proofs.Meaning.{book-parts}
 use borrow.Author.Needs.{needs}

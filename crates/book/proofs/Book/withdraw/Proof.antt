@@ -1,3 +1,5 @@
+-- `book::Book::withdraw`: sought at a filled place, then emptied.
+-- Assumes nothing.
 use mathlib.Core.Path.{ap, _∙_}
 use Rattle.paper.specs.Units.{Place}
 use Rattle.book.specs.declared.Book.{Book}
