@@ -7,13 +7,14 @@ ghost use Rattle.image.specs.Places.{cellsOf};
 ghost use Rattle.decimals.specs.Given.{Gives, Laid};
 ghost use Rattle.fieldfile.specs.Reader.{IN-SERIES, series, bodies};
 use decimals::Read;
+use image::Layout;
 use procedure::Procedure;
 
 // The places of a series.
 const IN_SERIES: usize = Procedure::SETS * Procedure::POINTS;
 
 // Where the cells of the second and of the third series begin.
-const SECOND: usize = 3 * IN_SERIES;
+const SECOND: usize = Layout::READING * IN_SERIES;
 
 const THIRD: usize = 2 * SECOND;
 
@@ -26,7 +27,7 @@ fn series_at(s: &[u8], at: usize, count: u64, cells: &mut [u64], base: usize) ->
     let mut left = count;
     let mut k = 0;
     while k < IN_SERIES {
-        let Read::At(m, n) = spots::spot_at(s, i, k, left, cells, base + 3 * k) else {
+        let Read::At(m, n) = spots::spot_at(s, i, k, left, cells, base + Layout::READING * k) else {
             return Read::Bad;
         };
         left = m;

@@ -7,10 +7,8 @@ ghost use Rattle.changes.specs.Kept.{pushed, popped, more};
 use image::Layout;
 use procedure::Procedure;
 
-// The words of one kept change, and of all others.
-const ONE: usize = 4;
-
-const OTHERS: usize = Layout::CHANGES - ONE;
+// The words of all kept changes but one.
+const OTHERS: usize = Layout::CHANGES - Layout::CHANGE;
 
 // The words of from, in order.
 fn copy(from: &[u64], out: &mut [u64])
@@ -33,7 +31,7 @@ fn push(old: [u64; Layout::CHANGES], place: u64, x: u64, y: u64, h: u64) -> [u64
     out[1] = x;
     out[2] = y;
     out[3] = h;
-    copy(&old[0..OTHERS], &mut out[ONE..Layout::CHANGES]);
+    copy(&old[0..OTHERS], &mut out[Layout::CHANGE..Layout::CHANGES]);
     out
 }
 
@@ -46,7 +44,7 @@ pub fn keep(
     requires { ⌜ place < PLACES ⌝ }
     ensures { λ r. ⌜ r ≡ pushed old place (getD (now (cells .entry)) (place * 3) 0) (getD (now (cells .entry)) (place * 3 + 1) 0) (getD (now (cells .entry)) (place * 3 + 2) 0) ⌝ }
 {
-    let m = place * 3;
+    let m = place * Layout::READING;
     push(old, place as u64, cells[m], cells[m + 1], cells[m + 2])
 }
 
@@ -55,7 +53,7 @@ pub fn pop(old: [u64; Layout::CHANGES]) -> [u64; Layout::CHANGES]
     ensures { λ r. ⌜ r ≡ popped old ⌝ }
 {
     let mut out = [0u64; Layout::CHANGES];
-    copy(&old[ONE..Layout::CHANGES], &mut out[0..OTHERS]);
+    copy(&old[Layout::CHANGE..Layout::CHANGES], &mut out[0..OTHERS]);
     out
 }
 

@@ -5,6 +5,13 @@ ghost use Rattle.decimals.specs.Reader.{run, nonzero, number};
 ghost use Rattle.decimals.specs.Given.{Gives, Magnitude, Word};
 use image::ORIGIN;
 
+// The first and the last digit, and the least number of twelve of them.
+const ZERO: u64 = b'0' as u64;
+
+const NINE: u64 = b'9' as u64;
+
+const TWELVE: u64 = 100000000000;
+
 // What was read, as a number, and the place after it; or there is no such thing.
 pub enum Read {
     At(u64, usize),
@@ -20,16 +27,16 @@ fn digits_at(s: &[u8], at: usize) -> Read
     let mut i = at;
     while i < s.len() {
         let b = words::wide(s[i]);
-        if b < 48 {
+        if b < ZERO {
             return Read::At(m, i);
         }
-        if 57 < b {
+        if NINE < b {
             return Read::At(m, i);
         }
-        if 100000000000 <= m {
+        if TWELVE <= m {
             return Read::At(m, i);
         }
-        m = m * 10 + (b - 48);
+        m = m * 10 + (b - ZERO);
         i += 1;
     }
     Read::At(m, i)
@@ -44,10 +51,10 @@ fn nonzero_at(s: &[u8], at: usize) -> Read
         return Read::Bad;
     }
     let b = s[at];
-    if b < 49 {
+    if b < b'1' {
         return Read::Bad;
     }
-    if 57 < b {
+    if b'9' < b {
         return Read::Bad;
     }
     digits_at(s, at)
@@ -63,10 +70,10 @@ pub fn number_at(s: &[u8], at: usize) -> Read
     }
     let b = s[at];
     let next = at + 1;
-    if b == 48 {
+    if b == b'0' {
         return Read::At(ORIGIN, next);
     }
-    if b == 45 {
+    if b == b'-' {
         let Read::At(m, n) = nonzero_at(s, next) else {
             return Read::Bad;
         };

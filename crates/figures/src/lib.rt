@@ -10,16 +10,12 @@ ghost use Rattle.sums.specs.Sums.{Modest, AllModest};
 ghost use Rattle.figures.specs.Judging.{shownBy, withinBy, judgedBy, Held, SheetHeld, VerdictHeld, AllHeld};
 use image::Layout;
 use image::ORIGIN;
+use image::Term;
 use paper::Evaluation;
 use paper::Judged;
 use paper::Shown;
 use procedure::Procedure;
 use sums::Totals;
-
-// Where sigma_xy and sigma_h stand among the terms.
-const SIGMA_XY: usize = 4;
-
-const SIGMA_H: usize = 5;
 
 // 42,000: s² is Q by 15 times the degrees of freedom, and 100 units² are 1 mm².
 const FIGURE: u64 = 100 * Procedure::ROUNDS as u64 * Procedure::DEGREES_H as u64;
@@ -99,7 +95,7 @@ pub fn evaluate(terms: &[u64; Layout::TERMS], cells: &[u64; Layout::CELLS]) -> E
         7447,
         s.p,
         sheet.sxy,
-        terms[SIGMA_XY],
+        terms[Term::SIGMA_XY],
     );
     let h = judged_by(
         TIMES_H,
@@ -108,7 +104,7 @@ pub fn evaluate(terms: &[u64; Layout::TERMS], cells: &[u64; Layout::CELLS]) -> E
         4134,
         s.qh,
         sheet.sh,
-        terms[SIGMA_H],
+        terms[Term::SIGMA_H],
     );
     Evaluation { sheet, xy, h }
 }
@@ -119,6 +115,6 @@ pub fn both_within(terms: &[u64; Layout::TERMS], cells: &[u64; Layout::CELLS]) -
     ensures { λ r. ⌜ r ≡ bothWithin (evaluation (termsOf (now (terms .entry))) (placesOf (now (cells .entry)))) ⌝ }
 {
     let s = sums::sums(terms, cells);
-    within_by(TIMES_XY, MOST_XY, s.p, terms[SIGMA_XY])
-        & within_by(TIMES_H, MOST_H, s.qh, terms[SIGMA_H])
+    within_by(TIMES_XY, MOST_XY, s.p, terms[Term::SIGMA_XY])
+        & within_by(TIMES_H, MOST_H, s.qh, terms[Term::SIGMA_H])
 }

@@ -46,7 +46,7 @@ fn sound(
     if kept > Procedure::KEPT as u64 {
         return false;
     }
-    zero_from(changes, (kept as usize) * 4)
+    zero_from(changes, (kept as usize) * Layout::CHANGE)
         & (ranges::in_range(terms) & standing::all_stand(terms, cells, kept, changes))
 }
 

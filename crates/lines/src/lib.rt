@@ -48,7 +48,7 @@ pub fn field_at(s: &[u8], at: usize, sep: u8) -> Read
 pub fn sep_of(n: usize) -> u8
     ensures { λ r. ⌜ r ≡ sepOf n ⌝ }
 {
-    if n == 0 { 10 } else { 32 }
+    if n == 0 { b'\n' } else { b' ' }
 }
 
 // A line of n numbers, whose words go to `out` from base on.

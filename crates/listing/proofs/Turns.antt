@@ -1,15 +1,14 @@
 -- A turn of each loop.
 -- Assumes nothing.
-use Prim.Native.Nat.{ℕ, suc, _+_, _-_, _*_, _≤_, _<_}
+use Prim.Native.Nat.{ℕ, suc, _+_, _-_, _*_, _<_}
 use native.Mathlib.Omega.{arith}
 use native.Mathlib.Numerals.{add-one}
-use native.Mathlib.Nat.{zero-add}
 use mathlib.Core.Path.{_≡_, refl, sym, _∙_}
 use mathlib.Core.Bool.{true, false, cond}
 use mathlib.Core.Option.{none, some, Option·map}
 use mathlib.Core.List.{List, [], _∷_, _++_, append-nil}
 use lib.ListN.{length, take, drop, getD, set, replicate}
-use lib.Seq.{paste-suc, take-suc-set, take-length, drop-length}
+use lib.Seq.{take-suc-set, take-length, drop-length}
 use Rattle.paper.specs.Procedure.{BOOKS}
 use Rattle.paper.specs.Books.{sight, sights}
 use Rattle.paper.specs.Screening.{each}
@@ -44,10 +43,6 @@ module _ (bs : List ℕ) (k : ℕ) (h : k < BOOKS) where
   pub list-same : (l : List ℕ) → l ≡ listedBy bs k → onList (Option·map sight (meant (bookAt bs (k * BOOK)))) ≡ false → l ≡ listedBy bs (k + 1)
   unfolding each
   list-same l e o = rw (add-one k, sight-is, o, append-nil) e
-
-pub write-turn : (xs out : List ℕ) (i : ℕ) → i < length xs → length xs ≤ length out
-    → set (take i xs ++ drop i out) i (getD xs i 0) ≡ take (i + 1) xs ++ drop (i + 1) out
-write-turn xs out i h e = rw (add-one i) (rw (zero-add i, zero-add (suc i)) at (paste-suc out 0 xs i 0 (omega arith) h))
 
 -- ---- at the end of each loop
 

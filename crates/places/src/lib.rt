@@ -35,7 +35,7 @@ pub fn empty_at(cells: &[u64; Layout::CELLS], place: usize) -> bool
     requires { ⌜ place < PLACES ⌝ }
     ensures { λ r. ⌜ r ≡ isEmpty (spotAt (now (cells .entry)) (place * 3)) ⌝ }
 {
-    let m = place * 3;
+    let m = place * Layout::READING;
     all_zero(cells[m], cells[m + 1], cells[m + 2])
 }
 
@@ -52,7 +52,7 @@ fn near_at(t: &[u64; Layout::TERMS], cells: &[u64; Layout::CELLS], place: usize)
     requires { ⌜ place < PLACES ⌝ }
     ensures { λ r. ⌜ r ≡ nearAt (termsOf (now (t .entry))) place (spotAt (now (cells .entry)) (place * 3)) ⌝ }
 {
-    let m = place * 3;
+    let m = place * Layout::READING;
     empty_at(cells, place) | ranges::near(t, place, cells[m], cells[m + 1], cells[m + 2])
 }
 

@@ -13,7 +13,7 @@ pub fn put(old: [u64; Layout::CELLS], place: usize, x: u64, y: u64, h: u64) -> [
     ensures { λ r. ⌜ r ≡ pasted old (place * 3) (x ∷ y ∷ h ∷ []) ⌝ }
 {
     let mut out = old;
-    let m = place * 3;
+    let m = place * Layout::READING;
     out[m] = x;
     out[m + 1] = y;
     out[m + 2] = h;

@@ -8,17 +8,20 @@ ghost use Rattle.decimals.specs.Numbers.{digits, numeral, line};
 ghost use Rattle.printing.specs.Given.{Put};
 use image::ORIGIN;
 
+// The digit 0.
+const ZERO: u64 = b'0' as u64;
+
 // The digits of m.
 fn put_digits(out: &mut [u8], at: usize, m: u64) -> usize
     requires { ⌜ at + length (digits m) ≤ length (now out) ⌝ }
     ensures { λ r. ⌜ Put (now (out .entry)) at (digits m) (now (out .exit)) r ⌝ }
 {
     if m < 10 {
-        out[at] = (48 + m) as u8;
+        out[at] = (ZERO + m) as u8;
         at + 1
     } else {
         let n = put_digits(out, at, m / 10);
-        out[n] = (48 + m % 10) as u8;
+        out[n] = (ZERO + m % 10) as u8;
         n + 1
     }
 }
@@ -29,7 +32,7 @@ fn put_field(out: &mut [u8], at: usize, z: u64, sep: u8) -> usize
     ensures { λ r. ⌜ Put (now (out .entry)) at (numeral (len z) ++ sep ∷ []) (now (out .exit)) r ⌝ }
 {
     if z < ORIGIN {
-        out[at] = 45;
+        out[at] = b'-';
         let n = put_digits(out, at + 1, ORIGIN - z);
         out[n] = sep;
         n + 1

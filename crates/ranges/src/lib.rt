@@ -9,6 +9,7 @@ ghost use Rattle.paper.specs.Units.{from1To, upTo, onEarth, within, inRange, ne
 ghost use Rattle.image.specs.Lengths.{ORIGIN, len, triple, tripleAt, termsOf};
 use image::Layout;
 use image::ORIGIN;
+use image::Term;
 use procedure::Procedure;
 use procedure::Range;
 
@@ -41,12 +42,12 @@ fn around(n: u64, ax: u64, ay: u64, ah: u64, x: u64, y: u64, h: u64) -> bool
 fn points_ok(t: &[u64; Layout::TERMS]) -> bool
     ensures { λ r. ⌜ r ≡ (onEarth (tripleAt (now (t .entry)) 6) && onEarth (tripleAt (now (t .entry)) 9) && within SPAN (tripleAt (now (t .entry)) 6) (tripleAt (now (t .entry)) 9)) ⌝ }
 {
-    let x = t[6];
-    let y = t[7];
-    let h = t[8];
-    let x2 = t[9];
-    let y2 = t[10];
-    let h2 = t[11];
+    let x = t[Term::X1];
+    let y = t[Term::Y1];
+    let h = t[Term::H1];
+    let x2 = t[Term::X2];
+    let y2 = t[Term::Y2];
+    let h2 = t[Term::H2];
     around(Range::EARTH, ORIGIN, ORIGIN, ORIGIN, x, y, h)
         & around(Range::EARTH, ORIGIN, ORIGIN, ORIGIN, x2, y2, h2)
         & around(Range::SPAN, x, y, h, x2, y2, h2)
@@ -56,12 +57,12 @@ fn points_ok(t: &[u64; Layout::TERMS]) -> bool
 pub fn in_range(t: &[u64; Layout::TERMS]) -> bool
     ensures { λ r. ⌜ r ≡ inRange (termsOf (now (t .entry))) ⌝ }
 {
-    from_1_to(Range::SPAN, t[0])
-        & close(Range::SPAN, ORIGIN, t[1])
-        & from_1_to(Range::SPREAD, t[2])
-        & from_1_to(Range::SPREAD, t[3])
-        & from_1_to(Range::SPREAD, t[4])
-        & from_1_to(Range::SPREAD, t[5])
+    from_1_to(Range::SPAN, t[Term::DISTANCE])
+        & close(Range::SPAN, ORIGIN, t[Term::HEIGHT])
+        & from_1_to(Range::SPREAD, t[Term::SCREEN_XY])
+        & from_1_to(Range::SPREAD, t[Term::SCREEN_H])
+        & from_1_to(Range::SPREAD, t[Term::SIGMA_XY])
+        & from_1_to(Range::SPREAD, t[Term::SIGMA_H])
         & points_ok(t)
 }
 
@@ -69,6 +70,6 @@ pub fn in_range(t: &[u64; Layout::TERMS]) -> bool
 pub fn near(t: &[u64; Layout::TERMS], place: usize, x: u64, y: u64, h: u64) -> bool
     ensures { λ r. ⌜ r ≡ near (termsOf (now (t .entry))) (pointOf place) (triple x y h) ⌝ }
 {
-    let k = 6 + place % Procedure::POINTS * 3;
+    let k = Term::X1 + place % Procedure::POINTS * Layout::READING;
     around(Range::NEARBY, t[k], t[k + 1], t[k + 2], x, y, h)
 }

@@ -6,6 +6,7 @@ ghost use Rattle.paper.specs.Alone.{askedAlone};
 ghost use Rattle.book.specs.Meaning.{seen};
 ghost use Rattle.readings.specs.Answers.{lengthsBy, lengthsOf, countBy, countOf};
 use book::Book;
+use image::Layout;
 use procedure::Refusal;
 
 #[repr(C)]
@@ -50,7 +51,7 @@ pub fn read(b: Book, series: u64, set: u64, point: u64) -> Lengths
         return no_lengths(aim.refusal);
     }
     let cells = b.cells;
-    let m = aim.place * 3;
+    let m = aim.place * Layout::READING;
     Lengths {
         refusal: 0,
         x: image::length_of(cells[m]),

@@ -6,10 +6,8 @@ ghost use Rattle.image.specs.Places.{placesOf};
 ghost use Rattle.image.specs.Ready.{Ready};
 ghost use Rattle.screen.specs.Named.{foundOf};
 use image::Layout;
+use image::Term;
 use procedure::Procedure;
-
-// Where s_xy stands among the terms.
-const SCREEN_XY: usize = 2;
 
 // A suspect: its series, its set, and 1 for the distance or 2 for the height.
 pub enum Found {
@@ -22,7 +20,7 @@ pub fn first_suspect(terms: &[u64; Layout::TERMS], cells: &[u64; Layout::CELLS])
     requires { ⌜ Ready (now terms) (now cells) ⌝ }
     ensures { λ r. ⌜ r ≡ foundOf (firstSuspect (termsOf (now (terms .entry))) (placesOf (now (cells .entry)))) ⌝ }
 {
-    let most = limits::most_passing(terms[SCREEN_XY]);
+    let most = limits::most_passing(terms[Term::SCREEN_XY]);
     let mut found = Found::Nowhere;
     'search: for series in 1..=Procedure::SERIES {
         for set in 1..=Procedure::SETS {

@@ -11,21 +11,15 @@ ghost use Rattle.limits.specs.Most.{mostPassing};
 ghost use Rattle.sets.specs.Words.{wordsFrom, Near, qOf, distance, height};
 use image::Layout;
 use image::ORIGIN;
+use image::Term;
 use procedure::Procedure;
-
-// Where D*, h* and s_h stand among the terms.
-const DISTANCE: usize = 0;
-
-const HEIGHT: usize = 1;
-
-const SCREEN_H: usize = 3;
 
 // Where the words of a set start: x, y, h of point 1, then of point 2.
 fn words_from(series: usize, set: usize) -> usize
     requires { ⌜ (1 ≤ series) × (series ≤ SERIES) × (1 ≤ set) × (set ≤ SETS) ⌝ }
     ensures { λ r. ⌜ r ≡ wordsFrom series set ⌝ }
 {
-    ((series - 1) * Procedure::SETS + (set - 1)) * Procedure::POINTS * 3
+    ((series - 1) * Procedure::SETS + (set - 1)) * Procedure::POINTS * Layout::READING
 }
 
 // q of the set whose words start at m.
@@ -51,7 +45,7 @@ pub fn distance_suspect(
 {
     let m = words_from(series, set);
     let q = q_from(cells, m);
-    limits::further(q, terms[DISTANCE] - ORIGIN, most)
+    limits::further(q, terms[Term::DISTANCE] - ORIGIN, most)
 }
 
 // Whether the height of a set is suspect.
@@ -65,6 +59,6 @@ pub fn height_suspect(
     ensures { λ r. ⌜ r ≡ suspicious (termsOf (now (terms .entry))) (placesOf (now (cells .entry))) (height series set) ⌝ }
 {
     let m = words_from(series, set);
-    let d = limits::apart(cells[m + 5] + ORIGIN - cells[m + 2], terms[HEIGHT]);
-    limits::beyond(terms[SCREEN_H], d)
+    let d = limits::apart(cells[m + 5] + ORIGIN - cells[m + 2], terms[Term::HEIGHT]);
+    limits::beyond(terms[Term::SCREEN_H], d)
 }

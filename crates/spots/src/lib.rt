@@ -9,7 +9,11 @@ ghost use Rattle.decimals.specs.Given.{Gives, Nothing};
 ghost use Rattle.fieldfile.specs.Reader.{IN-SERIES, tag, spot};
 ghost use Rattle.spots.specs.Given.{Placed};
 use decimals::Read;
+use image::Layout;
 use procedure::Procedure;
+
+// The digit 1.
+const ONE: usize = b'1' as usize;
 
 // The set and the point of place k of a series.
 fn tag_at(s: &[u8], at: usize, k: usize) -> Read
@@ -17,10 +21,10 @@ fn tag_at(s: &[u8], at: usize, k: usize) -> Read
     ensures { λ r. ⌜ Gives Nothing (now (s .entry)) at r (fixed (tag k) (drop at (now (s .entry)))) ⌝ }
 {
     let t = [
-        (49 + k / Procedure::POINTS) as u8,
-        32,
-        (49 + k % Procedure::POINTS) as u8,
-        32,
+        (ONE + k / Procedure::POINTS) as u8,
+        b' ',
+        (ONE + k % Procedure::POINTS) as u8,
+        b' ',
     ];
     lines::fixed_at(s, at, &t)
 }
@@ -48,7 +52,7 @@ pub fn spot_at(s: &[u8], at: usize, k: usize, left: u64, cells: &mut [u64], base
         clear(cells, base);
         return Read::At(left, at);
     };
-    let Read::At(_, n) = lines::numbers_at(s, m, 3, cells, base) else {
+    let Read::At(_, n) = lines::numbers_at(s, m, Layout::READING, cells, base) else {
         return Read::Bad;
     };
     Read::At(left - 1, n)

@@ -50,7 +50,7 @@ pub fn all_stand(
     let near = places::survey(t, cells, &mut marks);
     let mut j: usize = 0;
     while j < n {
-        let i = j * 4;
+        let i = j * Layout::CHANGE;
         let p = changes[i];
         let x = changes[i + 1];
         let y = changes[i + 2];

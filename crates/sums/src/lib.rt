@@ -9,14 +9,12 @@ ghost use Rattle.image.specs.Ready.{Ready};
 ghost use Rattle.sums.specs.Sums.{raisedOf, Adds, totalsOf, AllModest};
 ghost use Rattle.sums.specs.Places.{placeAt};
 use image::Layout;
+use image::Term;
 use procedure::Procedure;
 use procedure::Range;
 
 // The words of a set: x, y, h of each point.
-const SET: usize = Procedure::POINTS * 3;
-
-// Where the approximate values stand among the terms.
-const APPROXIMATE: usize = 6;
+const SET: usize = Procedure::POINTS * Layout::READING;
 
 // The offset of reading i of a point along an axis (0 x, 1 y, 2 h), raised by NEARBY so that it is not negative.
 fn raised(
@@ -29,8 +27,8 @@ fn raised(
     requires { ⌜ (1 ≤ point) × (point ≤ POINTS) × (axis < 3) × (i < ROUNDS) × Ready (now terms) (now cells) ⌝ }
     ensures { λ r. ⌜ (r ≡ raisedOf (now (terms .entry)) (now (cells .entry)) point axis i) × (r ≤ 2 * NEARBY) ⌝ }
 {
-    let from = (point - 1) * 3 + axis;
-    cells[i * SET + from] + Range::NEARBY - terms[APPROXIMATE + from]
+    let from = (point - 1) * Layout::READING + axis;
+    cells[i * SET + from] + Range::NEARBY - terms[Term::X1 + from]
 }
 
 // The sum of raised offsets, and the sum of their squares.

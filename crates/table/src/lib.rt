@@ -35,7 +35,7 @@ fn count_at(s: &[u8], at: usize, name: &[u8]) -> Read
     let Read::At(_, n) = lines::fixed_at(s, at, name) else {
         return Read::Bad;
     };
-    let Read::At(z, next) = lines::field_at(s, n, 10) else {
+    let Read::At(z, next) = lines::field_at(s, n, b'\n') else {
         return Read::Bad;
     };
     if z < ORIGIN {

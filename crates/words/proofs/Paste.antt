@@ -2,12 +2,12 @@
 -- Assumes nothing.
 use mathlib.Core.Path.{_≡_, refl, sym, ap, _∙_}
 use mathlib.Core.List.{List, [], _∷_, _++_, append-assoc}
-use Prim.Native.Nat.{ℕ, suc, _+_, _≤_}
-use native.Mathlib.Numerals.{unary-clauses}
+use Prim.Native.Nat.{ℕ, suc, _+_, _≤_, _<_}
+use native.Mathlib.Numerals.{unary-clauses, add-one}
 use native.Mathlib.Omega.{arith}
 use native.Mathlib.Nat.{add-zero, zero-add}
-use lib.ListN.{set, length, take, drop, length-append, take-append-drop}
-use lib.Seq.{length-take-le, take-at, drop-at, drop-append-add, drop-drop, sets, sets-eq}
+use lib.ListN.{set, length, take, drop, getD, length-append, take-append-drop}
+use lib.Seq.{length-take-le, take-at, drop-at, drop-append-add, drop-drop, sets, sets-eq, paste-suc}
 use Rattle.words.specs.Paste.{pasted}
 
 pub pasted-nil : (r : List ℕ) (a : ℕ) → pasted r a [] ≡ r
@@ -38,6 +38,12 @@ pasted-then r a xs p ys e h =
     rw (← l, drop-append-add, drop-drop) in
     let m : p + length ys ≡ a + length (xs ++ ys) = omega (arith, length-append xs ys) in
     rw (f, take-at (take a r ++ xs) (drop p r) p l, g, m, append-assoc, append-assoc)
+
+-- ---- a row copied over the start of another, one element after the other
+
+pub copied-more : (xs out : List ℕ) (i : ℕ) → i < length xs → length xs ≤ length out
+    → set (take i xs ++ drop i out) i (getD xs i 0) ≡ take (i + 1) xs ++ drop (i + 1) out
+copied-more xs out i h e = rw (add-one i) (rw (zero-add i, zero-add (suc i)) at (paste-suc out 0 xs i 0 (omega arith) h))
 
 -- ---- what stands in a row after a paste
 

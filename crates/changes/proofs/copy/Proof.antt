@@ -6,7 +6,7 @@ use mathlib.Core.List.{_++_, append-nil}
 use native.Mathlib.Omega.{arith}
 use lib.ListN.{length, take, drop, length-set}
 use lib.Seq.{drop-length, take-length}
-use Rattle.changes.proofs.Turns.{copy-turn}
+use Rattle.words.proofs.Paste.{copied-more}
 use Rattle.changes.proofs.copy.Statement.{statement}
 use Rattle.changes.proofs.copy.Tie as tie
 
@@ -43,7 +43,7 @@ loop-again c =
     let h : c .before .before .loop .i < length (s .args .from .now) = omega arith in (
       omega arith,
       simp length-set (omega arith),
-      rw (c .before .before .loop .inv .2) (copy-turn (s .args .from .now) _ _ h (s .pre)),
+      rw (c .before .before .loop .inv .2) (copied-more (s .args .from .now) _ _ h (omega arith)),
     )
 
 same-length : tie.Need-same-length Inv-loop μ-loop

@@ -1,6 +1,6 @@
 -- `changes::push`: the change, and all but the last behind it.
 -- Assumes nothing.
-use Rattle.changes.proofs.Turns.{pushed-eq}
+use Rattle.changes.proofs.Pushed.{pushed-eq}
 use borrow.Author.Needs.{needs}
 use Rattle.changes.proofs.push.Statement.{statement}
 use Rattle.changes.proofs.push.Tie as tie

@@ -6,7 +6,8 @@ use native.Mathlib.Omega.{arith}
 use mathlib.Core.Path.{_≡_, refl}
 use mathlib.Core.List.{_++_}
 use lib.ListN.{length, take, drop, length-set}
-use Rattle.listing.proofs.Turns.{write-turn, written-all}
+use Rattle.words.proofs.Paste.{copied-more}
+use Rattle.listing.proofs.Turns.{written-all}
 use Rattle.listing.proofs.write.Statement.{statement}
 use Rattle.listing.proofs.write.Tie as tie
 
@@ -40,7 +41,7 @@ loop-again c =
     let h : c .before .before .loop .i < length (s .args .from .now) = omega arith in (
       omega arith,
       simp length-set (omega arith),
-      rw (c .before .before .loop .inv .2) (write-turn (s .args .from .now) _ _ h (s .pre)),
+      rw (c .before .before .loop .inv .2) (copied-more (s .args .from .now) _ _ h (s .pre)),
     )
 
 same-length : tie.Need-same-length Inv-loop μ-loop

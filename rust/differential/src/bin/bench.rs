@@ -1,21 +1,23 @@
 //! The proved library timed against the second implementation, in one run and turn about.
 //!
 //! Both are optimised for speed by LLVM; the library is called through the boundary, the second
-//! implementation is compiled into this program. Each figure is the median of several rounds.
+//! implementation is compiled into this program. The rounds are many and short, and the ratio is
+//! the median of what each round's two times give: they lie milliseconds apart, so that a machine
+//! that is slower for a while is slower for both.
 
 use meliphrast::{boundary, BOOKS, LENGTH};
 use second::register as written_again;
 use std::hint::black_box;
-use std::time::{Duration, Instant};
+use std::time::Instant;
 
-const ROUNDS: usize = 9;
+const ROUNDS: u64 = 100;
 const CORRECTIONS: u64 = 100_000;
 const TERMS: [i64; 12] = [100_000, 0, 150, 250, 20, 20, 0, 0, 0, 100_000, 0, 0];
 const EXAMPLE: &[u8] = include_bytes!("../../../../examples/example.field");
 
 type Work = Box<dyn FnMut(u64)>;
 
-/// The same work done by each; the number tells one turn from another.
+/// The same work done by each, so many turns a round; the number tells one turn from another.
 struct Case {
     name: &'static str,
     turns: u64,
@@ -25,37 +27,48 @@ struct Case {
 
 fn main() {
     let register = full_register();
-    let cases = [
+    println!("Sixteen full books, 32 changes kept in each; medians of {ROUNDS} rounds.\n");
+    println!("| Work | library | second | ratio |\n|---|---|---|---|");
+    for case in [
         check(&register),
         read(&register),
         evaluate(&register),
-        correct_and_evaluate("correct, then evaluate", 20_000, &register),
         pass_list(&register),
         file(),
-        correct_and_evaluate(
-            "100,000 corrections, each evaluated",
-            CORRECTIONS,
-            &register,
-        ),
-    ];
-    println!("Sixteen full books, 32 changes kept in each; medians of {ROUNDS} rounds.\n");
-    println!("| Work | library | second | ratio |\n|---|---|---|---|");
-    for case in cases {
+    ] {
         let (name, turns) = (case.name, case.turns);
-        // The last case is told whole, the others by the turn.
-        let told = if turns == CORRECTIONS {
-            turns as f64
-        } else {
-            1.0
-        };
-        let [library, second] = timed(case).map(|turn| turn * told);
-        let ratio = library / second;
-        println!(
-            "| {name} | {} | {} | {ratio:.2} |",
-            time(library),
-            time(second)
-        );
+        tell_turn(name, turns, &timed(case));
     }
+    let case = correct_and_evaluate(&register);
+    let (name, turns) = (case.name, case.turns);
+    let rounds = timed(case);
+    tell_turn(name, turns, &rounds);
+    tell_whole("100,000 corrections, each evaluated", &rounds);
+}
+
+/// By the turn: the medians.
+fn tell_turn(name: &str, turns: u64, rounds: &[[f64; 2]]) {
+    let [library, second] =
+        [0, 1].map(|side| median(rounds.iter().map(|times| times[side])) / turns as f64);
+    tell(name, library, second, rounds);
+}
+
+/// All rounds together.
+fn tell_whole(name: &str, rounds: &[[f64; 2]]) {
+    let [library, second] = [0, 1].map(|side| rounds.iter().map(|times| times[side]).sum());
+    tell(name, library, second, rounds);
+}
+
+fn tell(name: &str, library: f64, second: f64, rounds: &[[f64; 2]]) {
+    let ratio = median(rounds.iter().map(|[library, second]| library / second));
+    let [library, second] = [library, second].map(time);
+    println!("| {name} | {library} | {second} | {ratio:.2} |");
+}
+
+fn median(values: impl Iterator<Item = f64>) -> f64 {
+    let mut values: Vec<f64> = values.collect();
+    values.sort_by(f64::total_cmp);
+    values[values.len() / 2]
 }
 
 fn time(nanoseconds: f64) -> String {
@@ -66,29 +79,26 @@ fn time(nanoseconds: f64) -> String {
     }
 }
 
-/// Nanoseconds of one turn, the library's and the second implementation's.
-fn timed(case: Case) -> [f64; 2] {
-    let mut sides = [case.library, case.second].map(|work| (work, Vec::new()));
-    for number in 0..ROUNDS {
-        // Turn about here too, in case it matters who goes first.
-        let first = number % 2;
-        for side in [first, 1 - first] {
-            let (work, times) = &mut sides[side];
-            times.push(round(work, case.turns));
-        }
-    }
-    sides.map(|(_, mut times)| {
-        times.sort();
-        times[ROUNDS / 2].as_nanos() as f64 / case.turns as f64
-    })
+/// Nanoseconds of each round, the library's and the second implementation's.
+fn timed(case: Case) -> Vec<[f64; 2]> {
+    let (mut sides, turns) = ([case.library, case.second], case.turns);
+    (0..ROUNDS)
+        .map(|number| {
+            // Turn about here too, in case it matters who goes first.
+            let first = number as usize % 2;
+            let mut times = [0.0; 2];
+            for side in [first, 1 - first] {
+                times[side] = round(&mut sides[side], number * turns..(number + 1) * turns);
+            }
+            times
+        })
+        .collect()
 }
 
-fn round(work: &mut Work, turns: u64) -> Duration {
+fn round(work: &mut Work, turns: std::ops::Range<u64>) -> f64 {
     let start = Instant::now();
-    for turn in 0..turns {
-        work(turn);
-    }
-    start.elapsed()
+    turns.for_each(work);
+    start.elapsed().as_nanos() as f64
 }
 
 /// Every book full, with as many changes kept as can be.
@@ -124,7 +134,7 @@ fn check(register: &[u8]) -> Case {
     let (ours, theirs) = (register.to_vec(), register.to_vec());
     Case {
         name: "the form check apart",
-        turns: 50_000,
+        turns: 5_000,
         library: Box::new(move |_| assert_eq!(boundary::check(black_box(&ours)), 0)),
         second: Box::new(move |_| assert!(written_again::in_form(black_box(&theirs)))),
     }
@@ -134,7 +144,7 @@ fn read(register: &[u8]) -> Case {
     let (ours, theirs) = (register.to_vec(), register.to_vec());
     Case {
         name: "one call: read a place",
-        turns: 50_000,
+        turns: 5_000,
         library: Box::new(move |turn| {
             let (place, _) = correction(turn);
             let read = boundary::read(black_box(&ours), book_of(turn), place);
@@ -152,7 +162,7 @@ fn evaluate(register: &[u8]) -> Case {
     let (ours, theirs) = (register.to_vec(), register.to_vec());
     Case {
         name: "evaluate",
-        turns: 50_000,
+        turns: 5_000,
         library: Box::new(move |turn| {
             let evaluation = boundary::evaluate(black_box(&ours), book_of(turn));
             assert_eq!(black_box(evaluation).refusal, 0);
@@ -164,11 +174,11 @@ fn evaluate(register: &[u8]) -> Case {
     }
 }
 
-fn correct_and_evaluate(name: &'static str, turns: u64, register: &[u8]) -> Case {
+fn correct_and_evaluate(register: &[u8]) -> Case {
     let (mut ours, mut theirs) = (register.to_vec(), register.to_vec());
     Case {
-        name,
-        turns,
+        name: "correct, then evaluate",
+        turns: CORRECTIONS / ROUNDS,
         library: Box::new(move |turn| {
             let (book, (place, reading)) = (book_of(turn), correction(turn));
             assert_eq!(boundary::correct(&mut ours, book, place, reading), 0);
@@ -187,7 +197,7 @@ fn pass_list(register: &[u8]) -> Case {
     let (ours, theirs) = (register.to_vec(), register.to_vec());
     Case {
         name: "pass list",
-        turns: 10_000,
+        turns: 2_000,
         library: Box::new(move |_| {
             let mut list = [0; BOOKS];
             let listed = boundary::pass_list(black_box(&ours), &mut list);
@@ -206,7 +216,7 @@ fn pass_list(register: &[u8]) -> Case {
 fn file() -> Case {
     Case {
         name: "read and evaluate a file",
-        turns: 20_000,
+        turns: 10_000,
         library: Box::new(|_| {
             assert_eq!(boundary::evaluate_file(black_box(EXAMPLE)).refusal, 0);
         }),
