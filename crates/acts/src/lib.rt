@@ -24,7 +24,7 @@ pub extern "C" fn rtk_open(
     ensures { λ r. ⌜ Calls (on book (begin (termsGiven d h sxy sh gxy gh x1 y1 h1 x2 y2 h2))) (now (register .entry)) r (now (register .exit)) ⌝ }
 {
     let b = shelf::found(register, book);
-    let opened = b.begin(d, h, sxy, sh, gxy, gh, x1, y1, h1, x2, y2, h2);
+    let opened = opening::begin(b, d, h, sxy, sh, gxy, gh, x1, y1, h1, x2, y2, h2);
     shelf::put_back(register, book, opened)
 }
 
@@ -34,7 +34,7 @@ pub extern "C" fn rtk_strike(register: &mut [u8], book: u64) -> u64
     ensures { λ r. ⌜ Calls (on book strike) (now (register .entry)) r (now (register .exit)) ⌝ }
 {
     let b = shelf::found(register, book);
-    let struck = b.strike();
+    let struck = opening::strike(b);
     shelf::put_back(register, book, struck)
 }
 

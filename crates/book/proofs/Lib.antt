@@ -3,5 +3,4 @@ pub mod Steps
 pub mod Sought
 pub mod Changed
 pub mod Back
-pub mod Opened
 pub mod Kept

@@ -5,9 +5,8 @@ ghost use mathlib.Core.Option.{none};
 ghost use Prim.Native.Nat.{_<_};
 ghost use lib.ListN.{getD};
 ghost use Rattle.paper.specs.Procedure.{PLACES};
-ghost use Rattle.paper.specs.Calls.{begin, strike, enter, correct, withdraw, takeBack};
-ghost use Rattle.paper.specs.Units.{termsGiven};
-ghost use Rattle.image.specs.Lengths.{wordOr, termsOf};
+ghost use Rattle.paper.specs.Calls.{enter, correct, withdraw, takeBack};
+ghost use Rattle.image.specs.Lengths.{wordOr};
 ghost use Rattle.book.specs.Meaning.{bookOf, bookForm};
 ghost use Rattle.book.specs.Steps.{stepOf, aimOf, soughtOf, changedOf, undoneOf, placedOf, filledOf};
 use image::Layout;
@@ -247,79 +246,5 @@ impl Book {
             refusal: Refusal::REGISTER,
             book: self,
         }
-    }
-
-    // Strike the book: it is closed, and nothing in it is left.
-    pub fn strike(self) -> Step
-        ensures { λ r. ⌜ r ≡ stepOf strike self ⌝ }
-    {
-        if in_form(self) {
-            if self.opened == 0 {
-                return Step {
-                    refusal: Refusal::CLOSED,
-                    book: self,
-                };
-            }
-            return Step {
-                refusal: 0,
-                book: closed(),
-            };
-        }
-        Step {
-            refusal: Refusal::REGISTER,
-            book: self,
-        }
-    }
-
-    // Open a closed book with terms, in words.
-    fn begin_words(self, terms: [u64; Layout::TERMS]) -> Step
-        ensures { λ r. ⌜ r ≡ stepOf (begin (termsOf terms)) self ⌝ }
-    {
-        if in_form(self) {
-            if self.opened != 0 {
-                return Step {
-                    refusal: Refusal::OPEN,
-                    book: self,
-                };
-            }
-            if ranges::in_range(&terms) {
-                return Step {
-                    refusal: 0,
-                    book: filled(terms, [0u64; Layout::CELLS]),
-                };
-            }
-            return Step {
-                refusal: Refusal::TERMS,
-                book: self,
-            };
-        }
-        Step {
-            refusal: Refusal::REGISTER,
-            book: self,
-        }
-    }
-}
-
-impl Book {
-    // Open a closed book with terms.
-    pub fn begin(
-        self,
-        distance: i64,
-        height: i64,
-        sxy: i64,
-        sh: i64,
-        gxy: i64,
-        gh: i64,
-        x1: i64,
-        y1: i64,
-        h1: i64,
-        x2: i64,
-        y2: i64,
-        h2: i64,
-    ) -> Step
-        ensures { λ r. ⌜ r ≡ stepOf (begin (termsGiven distance height sxy sh gxy gh x1 y1 h1 x2 y2 h2)) self ⌝ }
-    {
-        let terms = image::terms_of(distance, height, sxy, sh, gxy, gh, x1, y1, h1, x2, y2, h2);
-        self.begin_words(terms)
     }
 }

@@ -10,7 +10,7 @@ use lib.Dec.{ltb, leb, eqb}
 use lib.ListN.{length}
 use lib.IntN.{ℤ, pos, negsuc, negℤ}
 use Rattle.words.specs.Lists.{All}
-use Rattle.decimals.specs.Numbers.{digitsIn, digits, numeral, Short, AllShort, sepOf, line}
+use Rattle.decimals.specs.Numbers.{digitsIn, digits, numeral, TWELVE-DIGITS, THIRTEEN-DIGITS, Short, AllShort, sepOf, line}
 use Rattle.decimals.specs.Reader.{Parsed, got, bad, then, fixed, stops, run, nonzero, below, above, number, field, ahead, numbers}
 use Rattle.decimals.proofs.Steps.{then-got, run-on, run-low}
 
@@ -73,23 +73,23 @@ fixed-only (a ∷ w) (b ∷ l) {u} {r} e = go (eqb b a) refl e (fixed-only w l)
     go true p e ih = let f = eqb-true b a p in let g = ih e in cc
     go false p e ih = no e
 
-go-on : (a b : ℕ) → stops a b ≡ false → (48 ≤ b) × (b ≤ 57) × (a < 100_000_000_000)
+go-on : (a b : ℕ) → stops a b ≡ false → (48 ≤ b) × (b ≤ 57) × (a < TWELVE-DIGITS)
 unfolding stops
 go-on a b e = go (ltb b 48) refl (ltb 57 b) refl e
   where
-    never : true ≡ false → (48 ≤ b) × (b ≤ 57) × (a < 100_000_000_000)
+    never : true ≡ false → (48 ≤ b) × (b ≤ 57) × (a < TWELVE-DIGITS)
     never e = let z : _≡_ {A = ℕ} 0 1 = cc in absurd (omega arith)
 
-    go : (x : Bool) → ltb b 48 ≡ x → (y : Bool) → ltb 57 b ≡ y → cond x true (cond y true (leb 100_000_000_000 a)) ≡ false → (48 ≤ b) × (b ≤ 57) × (a < 100_000_000_000)
+    go : (x : Bool) → ltb b 48 ≡ x → (y : Bool) → ltb 57 b ≡ y → cond x true (cond y true (leb TWELVE-DIGITS a)) ≡ false → (48 ≤ b) × (b ≤ 57) × (a < TWELVE-DIGITS)
     go true p y q r = never r
     go false p true q r = never r
-    go false p false q r = (ltb-false b 48 p, ltb-false 57 b q, leb-false 100_000_000_000 a r)
+    go false p false q r = (ltb-false b 48 p, ltb-false 57 b q, leb-false TWELVE-DIGITS a r)
 
 -- the digits that a reader of digits leaves behind it, after those of a
 abbrev Ran : (a : ℕ) (l : List ℕ) (v : ℕ) (r : List ℕ) → Type 0
-Ran a l v r = (digits a ++ l ≡ digits v ++ r) × (0 < v) × (v < 1_000_000_000_000)
+Ran a l v r = (digits a ++ l ≡ digits v ++ r) × (0 < v) × (v < THIRTEEN-DIGITS)
 
-run-only : (l : List ℕ) (a v : ℕ) (r : List ℕ) → 0 < a → a < 1_000_000_000_000 → run a l ≡ got v r → Ran a l v r
+run-only : (l : List ℕ) (a v : ℕ) (r : List ℕ) → 0 < a → a < THIRTEEN-DIGITS → run a l ≡ got v r → Ran a l v r
 unfolding run
 run-only [] a v r p q e = let f : a ≡ v = cc in (cc, omega arith, omega arith)
 run-only (b ∷ l) a v r p q e =
@@ -104,12 +104,12 @@ run-only (b ∷ l) a v r p q e =
         let f : 48 + (b - 48) ≡ b = omega arith in
         (rw f at (rw append-assoc at (rw (digits-snoc a (b - 48) p (omega arith)) at (i .0))), i .1, i .2)
 
-nonzero-only : (l : List ℕ) (v : ℕ) (r : List ℕ) → nonzero l ≡ got v r → (l ≡ digits v ++ r) × (0 < v) × (v < 1_000_000_000_000)
+nonzero-only : (l : List ℕ) (v : ℕ) (r : List ℕ) → nonzero l ≡ got v r → (l ≡ digits v ++ r) × (0 < v) × (v < THIRTEEN-DIGITS)
 unfolding nonzero
 nonzero-only [] v r e = no e
 nonzero-only (b ∷ l) v r e = go (ltb b 49) refl (ltb 57 b) refl e
   where
-    go : (x : Bool) → ltb b 49 ≡ x → (y : Bool) → ltb 57 b ≡ y → cond x bad (cond y bad (run 0 (b ∷ l))) ≡ got v r → (b ∷ l ≡ digits v ++ r) × (0 < v) × (v < 1_000_000_000_000)
+    go : (x : Bool) → ltb b 49 ≡ x → (y : Bool) → ltb 57 b ≡ y → cond x bad (cond y bad (run 0 (b ∷ l))) ≡ got v r → (b ∷ l ≡ digits v ++ r) × (0 < v) × (v < THIRTEEN-DIGITS)
     go true p y q e = no e
     go false p true q e = no e
     go false p false q e =
@@ -126,7 +126,7 @@ unfolding numeral
 numeral-below zero p = absurd (omega arith)
 numeral-below (suc m) p = refl
 
-short-below : (m : ℕ) → m < 1_000_000_000_000 → Short (negℤ (pos m))
+short-below : (m : ℕ) → m < THIRTEEN-DIGITS → Short (negℤ (pos m))
 short-below zero p = omega arith
 short-below (suc m) p = p
 
@@ -189,12 +189,12 @@ fixed-back [] r = refl
 fixed-back (a ∷ w) r = rw (eq-eqb a a refl) (fixed-back w r)
 
 -- one digit more
-run-digit : (a d : ℕ) (l : List ℕ) → d < 10 → a < 100_000_000_000 → run a ((48 + d) ∷ l) ≡ run (a * 10 + d) l
+run-digit : (a d : ℕ) (l : List ℕ) → d < 10 → a < TWELVE-DIGITS → run a ((48 + d) ∷ l) ≡ run (a * 10 + d) l
 run-digit a d l p q =
     let f : 48 + d - 48 ≡ d = omega arith in
     run-on ((48 + d) ∷ l) 0 (48 + d) (omega arith) refl a (omega arith) (omega arith) q ∙ ap (λ (n : ℕ). run (a * 10 + n) l) f
 
-run-back : (j v : ℕ) (l : List ℕ) → v < j → v < 1_000_000_000_000 → run 0 (digitsIn j v ++ l) ≡ run v l
+run-back : (j v : ℕ) (l : List ℕ) → v < j → v < THIRTEEN-DIGITS → run 0 (digitsIn j v ++ l) ≡ run v l
 run-back zero v l p q = absurd (omega arith)
 run-back (suc j) v l p q = go (ltb v 10) refl (λ h. run-back j (v / 10) ((48 + v % 10) ∷ l) (omega arith) (omega arith))
   where
@@ -225,7 +225,7 @@ module _ (v : ℕ) (p : 0 < v) where
   unfolding digits
   first-digit = first (suc v) v (omega arith) p
 
-  nonzero-back : (sep : ℕ) (r : List ℕ) → sep < 48 → v < 1_000_000_000_000 → nonzero (digits v ++ sep ∷ r) ≡ got v (sep ∷ r)
+  nonzero-back : (sep : ℕ) (r : List ℕ) → sep < 48 → v < THIRTEEN-DIGITS → nonzero (digits v ++ sep ∷ r) ≡ got v (sep ∷ r)
   unfolding nonzero digits
   nonzero-back sep r s q =
       let i = first-digit in

@@ -10,6 +10,7 @@ use lib.ListN.{length, drop, getD, drop-of-length-le}
 use lib.Seq.{drop-cons}
 use lib.IntN.{ℤ, pos, negℤ}
 use Rattle.image.specs.Lengths.{ORIGIN, word}
+use Rattle.decimals.specs.Numbers.{TWELVE-DIGITS}
 use Rattle.decimals.specs.Reader.{Parsed, got, bad, then, stops, run, nonzero, below, above, number}
 use Rattle.decimals.specs.Given.{Got, Gives, Magnitude, Word}
 use Rattle.decimals.specs.declared.Read.{Read}
@@ -59,9 +60,9 @@ module _ (s : List ℕ) (i b : ℕ) (p : i < length s) (e : b ≡ getD s i 0) wh
   pub front : drop i s ≡ b ∷ drop (i + 1) s
   front = rw (e, add-one, drop-cons s i 0)
 
-  pub run-on : (a : ℕ) → 48 ≤ b → b ≤ 57 → a < 100_000_000_000 → run a (drop i s) ≡ run (a * 10 + (b - 48)) (drop (i + 1) s)
+  pub run-on : (a : ℕ) → 48 ≤ b → b ≤ 57 → a < TWELVE-DIGITS → run a (drop i s) ≡ run (a * 10 + (b - 48)) (drop (i + 1) s)
   unfolding run stops
-  run-on a h k r = rw front (simp (le-ltb b 48 h, le-ltb 57 b k, lt-leb 100_000_000_000 a r))
+  run-on a h k r = rw front (simp (le-ltb b 48 h, le-ltb 57 b k, lt-leb TWELVE-DIGITS a r))
 
   pub run-low : (a : ℕ) → b < 48 → run a (drop i s) ≡ got a (drop i s)
   unfolding run stops
@@ -71,9 +72,9 @@ module _ (s : List ℕ) (i b : ℕ) (p : i < length s) (e : b ≡ getD s i 0) wh
   unfolding run stops
   run-high a h = rw front (simp (le-ltb b 48 (omega arith), lt-ltb 57 b h))
 
-  pub run-full : (a : ℕ) → 48 ≤ b → b ≤ 57 → 100_000_000_000 ≤ a → run a (drop i s) ≡ got a (drop i s)
+  pub run-full : (a : ℕ) → 48 ≤ b → b ≤ 57 → TWELVE-DIGITS ≤ a → run a (drop i s) ≡ got a (drop i s)
   unfolding run stops
-  run-full a h k r = rw front (simp (le-ltb b 48 h, le-ltb 57 b k, le-leb 100_000_000_000 a r))
+  run-full a h k r = rw front (simp (le-ltb b 48 h, le-ltb 57 b k, le-leb TWELVE-DIGITS a r))
 
   pub nonzero-low : b < 49 → nonzero (drop i s) ≡ bad
   unfolding nonzero

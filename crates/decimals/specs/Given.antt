@@ -6,6 +6,7 @@ use lib.ListN.{length, drop}
 use lib.IntN.{ℤ}
 use Rattle.words.specs.Paste.{pasted}
 use Rattle.image.specs.Lengths.{word}
+use Rattle.decimals.specs.Numbers.{THIRTEEN-DIGITS}
 use Rattle.decimals.specs.Reader.{Parsed, got, bad}
 use Rattle.decimals.specs.declared.Read.{Read}
 use Rattle.decimals.specs.declared.Read.the-variants.{At, Bad}
@@ -28,7 +29,7 @@ abbrev pub Nothing : {A : Type 0} → A → ℕ → Type 0
 Nothing v m = Unit
 
 abbrev pub Magnitude : ℕ → ℕ → Type 0
-Magnitude v m = (m ≡ v) × (v < 1_000_000_000_000)
+Magnitude v m = (m ≡ v) × (v < THIRTEEN-DIGITS)
 
 abbrev pub Word : ℤ → ℕ → Type 0
 Word z m = m ≡ word z

@@ -21,9 +21,16 @@ unfoldable pub numeral : ℤ → List ℕ
 numeral (pos n) = digits n
 numeral (negsuc n) = 45 ∷ digits (suc n)
 
+-- the least numbers of 12 digits, and of 13
+abbrev pub TWELVE-DIGITS : ℕ
+TWELVE-DIGITS = 100_000_000_000
+
+abbrev pub THIRTEEN-DIGITS : ℕ
+THIRTEEN-DIGITS = 1_000_000_000_000
+
 -- a number has 1 to 12 digits
 abbrev pub Short : ℤ → Type 0
-Short z = natAbs z < 1_000_000_000_000
+Short z = natAbs z < THIRTEEN-DIGITS
 
 abbrev pub AllShort : List ℤ → Type 0
 AllShort zs = All Short zs

@@ -4,7 +4,7 @@ use mathlib.Core.Bool.{Bool, true, cond}
 use mathlib.Core.List.{List, [], _∷_, _++_}
 use lib.Dec.{ltb, leb, eqb}
 use lib.IntN.{ℤ, pos, negℤ}
-use Rattle.decimals.specs.Numbers.{sepOf}
+use Rattle.decimals.specs.Numbers.{TWELVE-DIGITS, sepOf}
 
 pub data Parsed (A : Type 0) : Type 0 where
   got : A → List ℕ → Parsed A
@@ -23,7 +23,7 @@ fixed (a ∷ w) (b ∷ l) = cond (eqb b a) (fixed w l) bad
 
 -- no digit, or a thirteenth
 unfoldable pub stops : ℕ → ℕ → Bool
-stops a b = cond (ltb b 48) true (cond (ltb 57 b) true (leb 100_000_000_000 a))
+stops a b = cond (ltb b 48) true (cond (ltb 57 b) true (leb TWELVE-DIGITS a))
 
 -- the digits at the front, after those of a
 unfoldable pub run : ℕ → List ℕ → Parsed ℕ

@@ -10,7 +10,7 @@ const ZERO: u64 = b'0' as u64;
 
 const NINE: u64 = b'9' as u64;
 
-const TWELVE: u64 = 100000000000;
+const TWELVE_DIGITS: u64 = 100000000000;
 
 // What was read, as a number, and the place after it; or there is no such thing.
 pub enum Read {
@@ -33,7 +33,7 @@ fn digits_at(s: &[u8], at: usize) -> Read
         if NINE < b {
             return Read::At(m, i);
         }
-        if TWELVE <= m {
+        if TWELVE_DIGITS <= m {
             return Read::At(m, i);
         }
         m = m * 10 + (b - ZERO);

@@ -1,10 +1,11 @@
 -- The numbers that a line can hold.
-use Prim.Native.Nat.{ℕ, _<_}
+use Prim.Native.Nat.{ℕ}
+use lib.IntN.{pos}
 use Rattle.paper.specs.declared.Judged.{Judged}
+use Rattle.decimals.specs.Numbers.{Short}
 
--- a number that a line can hold
 abbrev pub Fits : ℕ → Type 0
-Fits n = n < 1_000_000_000_000
+Fits n = Short (pos n)
 
 abbrev pub FitsAxis : Judged → Type 0
 FitsAxis j = Fits (j .m) × Fits (j .b)

@@ -6,6 +6,7 @@ use mathlib.Core.List.{List}
 use native.Mathlib.Omega.{arith}
 use borrow.Author.Needs.{needs}
 use lib.ListN.{length, drop}
+use Rattle.decimals.specs.Numbers.{THIRTEEN-DIGITS}
 use Rattle.decimals.specs.Reader.{got, run}
 use Rattle.decimals.specs.Given.{Gives, Magnitude}
 use Rattle.decimals.specs.declared.Read.the-variants.{At}
@@ -15,7 +16,7 @@ use Rattle.decimals.proofs.digits_at.Tie as tie
 
 -- what is left to read gives what the whole gives
 abbrev Going : List ℕ → (at m i : ℕ) → Type 0
-Going s at m i = (run 0 (drop at s) ≡ run m (drop i s)) × (at ≤ i) × (i ≤ length s) × (m < 1_000_000_000_000)
+Going s at m i = (run 0 (drop at s) ≡ run m (drop i s)) × (at ≤ i) × (i ≤ length s) × (m < THIRTEEN-DIGITS)
 
 stop : (s : List ℕ) (at m i : ℕ) → Going s at m i → run m (drop i s) ≡ got m (drop i s) → Gives Magnitude s at (At m i) (run 0 (drop at s))
 stop s at m i v e = yes-at (record { value = m; reads = v .0 ∙ e; holds = (refl, v .3); from = v .1; to = v .2 })

@@ -1,17 +1,22 @@
 -- `evaluate::main`: what was read lies within the buffer.
 -- Assumes nothing.
-use Prim.Native.Nat.{_+_, _≤_}
+use Prim.Native.Nat.{_≤_}
 use native.Mathlib.Omega.{arith}
-use mathlib.Core.Path.{_≡_, sym, subst}
+use mathlib.Core.Path.{sym}
 use lib.ListN.{length}
 use lib.Seq.{length-take-le}
-use Rattle.fieldfile.specs.Form.{LONGEST}
-use Rattle.evaluate.specs.declared.Got.{Got}
-use Rattle.evaluate.specs.declared.Got.the-variants.{Bytes}
-use Rattle.evaluate.specs.Input.{Ends}
+use Rattle.input.proofs.Reading.{within}
 use borrow.Author.Needs.{needs}
 use Rattle.evaluate.proofs.main.Statement.{statement}
 use Rattle.evaluate.proofs.main.Tie as tie
+
+-- what was read lies within the buffer
+module _ (c : tie.After-n) where
+  abbrev after-fill : tie.After-fill
+  after-fill = c .before .before .before
+
+  bound : c .n .given .0 .0 ≤ length (after-fill .fill .last .0)
+  bound = omega (arith, within 0 _ (c .n .given .1) (after-fill .fill .ensures), after-fill .fill .kept .0)
 
 slice-aggregate-fill : tie.Need-slice-aggregate-fill
 slice-aggregate-fill c = search needs
@@ -35,19 +40,10 @@ returns : tie.Need-returns
 returns c = search needs
 
 array-share-prefix-buffer : tie.Need-array-share-prefix-buffer
-array-share-prefix-buffer c =
-    let after-fill : tie.After-fill = search in
-    let e : Ends (Bytes (c .before .n .given .0 .0)) 0 (LONGEST + 1) = subst (λ (g : Got). Ends g 0 (LONGEST + 1)) (c .before .n .given .1) (after-fill .fill .ensures) in
-    let l : length (after-fill .fill .last .0) ≡ LONGEST + 1 = search needs in
-    omega (arith, e, l)
+array-share-prefix-buffer c = bound (c .before)
 
 slice-aggregate-print : tie.Need-slice-aggregate-print
-slice-aggregate-print c =
-    let after-fill : tie.After-fill = search in
-    let e : Ends (Bytes (c .before .before .n .given .0 .0)) 0 (LONGEST + 1) = subst (λ (g : Got). Ends g 0 (LONGEST + 1)) (c .before .before .n .given .1) (after-fill .fill .ensures) in
-    let l : length (after-fill .fill .last .0) ≡ LONGEST + 1 = search needs in
-    let h : c .before .before .n .given .0 .0 ≤ length (after-fill .fill .last .0) = omega (arith, e, l) in
-    sym (length-take-le _ _ h)
+slice-aggregate-print c = sym (length-take-le _ _ (bound (c .before .before)))
 
 print-requires : tie.Need-print-requires
 print-requires c κs = search needs

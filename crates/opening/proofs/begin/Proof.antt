@@ -1,12 +1,12 @@
--- `book::Book::begin`: terms of any size are opened as their words are.
+-- `opening::begin`: terms of any size are opened as their words are.
 -- Assumes nothing.
 use Rattle.book.proofs.Meaning.{Sized}
-use Rattle.book.proofs.Opened.{begin-given}
+use Rattle.opening.proofs.Opened.{begin-given}
 use borrow.Author.Needs.{needs}
-use Rattle.book.proofs.Book.begin.Statement.{statement}
-use Rattle.book.proofs.Book.begin.Tie as tie
+use Rattle.opening.proofs.begin.Statement.{statement}
+use Rattle.opening.proofs.begin.Tie as tie
 
-sized : (s : tie.Start) → Sized (s .args .self)
+sized : (s : tie.Start) → Sized (s .args .b)
 sized s = record { terms = search needs; cells = search needs; changes = search needs }
 
 terms-of-requires : tie.Need-terms-of-requires

@@ -1,20 +1,17 @@
--- `evaluate::fill`: what was read lies within the buffer.
+-- `input::fill`: what was read lies within the buffer.
 -- Assumes nothing.
 use borrow.Author.Needs.{needs}
 use Prim.Native.Nat.{_+_, _≤_}
 use native.Mathlib.Omega.{arith}
-use mathlib.Core.Path.{_≡_, subst}
-use Rattle.fieldfile.specs.Form.{LONGEST}
-use Rattle.evaluate.specs.declared.Got.{Got}
-use Rattle.evaluate.specs.declared.Got.the-variants.{Bytes}
-use Rattle.evaluate.specs.Input.{Ends}
+use mathlib.Core.Path.{_≡_}
 use lib.ListN.{length}
-use Rattle.evaluate.proofs.fill.Statement.{statement}
-use Rattle.evaluate.proofs.fill.Tie as tie
+use Rattle.input.proofs.Reading.{within}
+use Rattle.input.proofs.fill.Statement.{statement}
+use Rattle.input.proofs.fill.Tie as tie
 
 abbrev Inv-loop : tie.InvT-loop
 Inv-loop buffer₀ len₀ turns₀ buffer len turns =
-    (len ≤ LONGEST + 1) × (length buffer ≡ LONGEST + 1)
+    (len ≤ length buffer₀) × (length buffer ≡ length buffer₀)
 
 abbrev μ-loop : tie.MeasureT-loop
 μ-loop buffer₀ len₀ turns₀ buffer len turns =
@@ -28,12 +25,10 @@ module _ (c : tie.Else1 Inv-loop μ-loop) where
   abbrev at-loop : tie.At-loop Inv-loop μ-loop
   at-loop = search
 
-  bound : after-next-place .next-place .result + c .before .before .n .given .0 .0 ≤ LONGEST + 1
+  bound : after-next-place .next-place .result + c .before .before .n .given .0 .0 ≤ length (at-loop .loop .buffer)
   bound =
       let after-read-once : tie.After-read-once Inv-loop μ-loop = search in
-      let e : Ends (Bytes (c .before .before .n .given .0 .0)) (after-next-place .next-place .result) (length (at-loop .loop .buffer)) =
-      subst (λ (g : Got). Ends g (after-next-place .next-place .result) (length (at-loop .loop .buffer))) (c .before .before .n .given .1) (after-read-once .read-once .ensures) in
-      omega (arith, e, at-loop .loop .inv .1)
+      within _ _ (c .before .before .n .given .1) (after-read-once .read-once .ensures)
 
 loop-holds : tie.Need-loop-holds Inv-loop μ-loop
 loop-holds c = search needs

@@ -1,16 +1,16 @@
--- `book::Book::begin_words`: by the form, whether the book is open, and the ranges.
+-- `opening::begin_words`: by the form, whether the book is open, and the ranges.
 -- Assumes nothing.
 use mathlib.Core.Path.{_≡_, _∙_}
 use lib.ListN.{length}
 use Rattle.form.proofs.Laws.{known}
 use Rattle.book.proofs.Meaning.{Sized}
 use Rattle.book.proofs.Steps.{step-unformed}
-use Rattle.book.proofs.Opened.{begin-open, begin-range, begun-with, blank-words}
+use Rattle.opening.proofs.Opened.{begin-open, begin-range, begun-with, blank-words}
 use borrow.Author.Needs.{needs}
-use Rattle.book.proofs.Book.begin_words.Statement.{statement}
-use Rattle.book.proofs.Book.begin_words.Tie as tie
+use Rattle.opening.proofs.begin_words.Statement.{statement}
+use Rattle.opening.proofs.begin_words.Tie as tie
 
-sized : (s : tie.Start) → Sized (s .args .self)
+sized : (s : tie.Start) → Sized (s .args .b)
 sized s = record { terms = search needs; cells = search needs; changes = search needs }
 
 in-form-requires : tie.Need-in-form-requires

@@ -1,14 +1,14 @@
--- `book::Book::strike`: by the form, and whether the book is open.
+-- `opening::strike`: by the form, and whether the book is open.
 -- Assumes nothing.
 use Rattle.form.proofs.Laws.{known}
 use Rattle.book.proofs.Meaning.{Sized}
 use Rattle.book.proofs.Steps.{step-unformed}
-use Rattle.book.proofs.Opened.{strike-closed, struck}
+use Rattle.opening.proofs.Opened.{strike-closed, struck}
 use borrow.Author.Needs.{needs}
-use Rattle.book.proofs.Book.strike.Statement.{statement}
-use Rattle.book.proofs.Book.strike.Tie as tie
+use Rattle.opening.proofs.strike.Statement.{statement}
+use Rattle.opening.proofs.strike.Tie as tie
 
-sized : (s : tie.Start) → Sized (s .args .self)
+sized : (s : tie.Start) → Sized (s .args .b)
 sized s = record { terms = search needs; cells = search needs; changes = search needs }
 
 in-form-requires : tie.Need-in-form-requires
