@@ -1,6 +1,8 @@
 -- The paper's answers as the records of the boundary.
 use Prim.Native.Nat.{ℕ}
-use mathlib.Core.Bool.{Bool, true, false}
+use mathlib.Core.Bool.{Bool, true, false, cond}
+use mathlib.Core.List.{List}
+use Rattle.paper.specs.Refusals.{REGISTER}
 use Rattle.paper.specs.Figures.{doubles}
 use Rattle.paper.specs.Verdicts.{verdict, markOf}
 use Rattle.paper.specs.Answers.{Answer}
@@ -8,8 +10,13 @@ use Rattle.doubles.specs.declared.Evaluated.{Evaluated}
 use Rattle.comparison.specs.declared.Compared.{Compared}
 use Rattle.evaluation.specs.Evaluating.{evaluationIn}
 use Rattle.comparison.specs.Comparing.{sameIn}
+use Rattle.lent.specs.Image.{inForm}
 use Rattle.asks.specs.declared.Evaluation.{Evaluation}
 use Rattle.asks.specs.declared.Comparison.{Comparison}
+
+-- REGISTER exactly when the bytes are not in form
+abbrev pub checked : List ℕ → ℕ
+checked bs = cond (inForm bs) 0 REGISTER
 
 -- figures as doubles; a verdict is its number and two figures, by the paper's definition
 unfoldable pub evaluationOf : Answer → Evaluation

@@ -1,4 +1,5 @@
-// The exported calls that ask: of one book of a lent register, of two, of a field file. Any bytes and any numbers may be handed in.
+// The exported calls that ask: of a lent register's form, of one book of it, of two, of a field file. Any bytes and any numbers may be
+// handed in.
 // Of a number that is no book's a closed book is asked: beside any refusal the rest of an answer is the same.
 ghost use mathlib.Core.Path.{_≡_};
 ghost use Rattle.paper.specs.Calls.{ask, read, changes, residual, evaluate, compare};
@@ -6,13 +7,27 @@ ghost use Rattle.paper.specs.Alone.{evaluatedFile};
 ghost use Rattle.readings.specs.Answers.{lengthsOf, countOf};
 ghost use Rattle.fieldfile.specs.Reader.{readOf};
 ghost use Rattle.lent.specs.Calls.{called};
-ghost use Rattle.asks.specs.Answers.{plainOf, evaluationOf, plainlyOf, comparisonOf};
+ghost use Rattle.asks.specs.Answers.{checked, plainOf, evaluationOf, plainlyOf, comparisonOf};
 use comparison::Compared;
 use doubles::Evaluated;
 use paper::Mark;
 use paper::Sheet;
+use procedure::Refusal;
 use readings::Count;
 use readings::Lengths;
+
+// ---- the form
+
+// The form check apart, which every call on books makes first: 0, or REGISTER.
+#[no_mangle]
+pub extern "C" fn rtk_check(register: &[u8]) -> u64
+    ensures { λ r. ⌜ r ≡ checked (now (register .entry)) ⌝ }
+{
+    if lent::formed(register) {
+        return 0;
+    }
+    Refusal::REGISTER
+}
 
 // ---- a reading, a count, a residual
 

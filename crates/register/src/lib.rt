@@ -1,11 +1,11 @@
-// The exported calls on a lent register as a whole: its length, its form, a fresh one, the pass list. Any bytes may be handed in.
+// The exported calls on a lent register as a whole: its length, a fresh one, the pass list. Any bytes may be handed in.
 ghost use mathlib.Core.Path.{_≡_};
 ghost use lib.ListN.{length};
 ghost use Rattle.paper.specs.Calls.{fresh, ask, passList};
 ghost use Rattle.readings.specs.Answers.{countOf};
 ghost use Rattle.lent.specs.Image.{LENGTH};
 ghost use Rattle.lent.specs.Calls.{called, Calls};
-ghost use Rattle.register.specs.Answers.{checked, listAfter};
+ghost use Rattle.register.specs.Answers.{listAfter};
 use image::Layout;
 use procedure::Refusal;
 use readings::Count;
@@ -16,17 +16,6 @@ pub extern "C" fn rtk_length() -> u64
     ensures { λ r. ⌜ r ≡ LENGTH ⌝ }
 {
     Layout::REGISTER as u64
-}
-
-// The form check apart, which every call on books makes first: 0, or REGISTER.
-#[no_mangle]
-pub extern "C" fn rtk_check(register: &[u8]) -> u64
-    ensures { λ r. ⌜ r ≡ checked (now (register .entry)) ⌝ }
-{
-    if lent::formed(register) {
-        return 0;
-    }
-    Refusal::REGISTER
 }
 
 // Make a fresh register over any bytes of the right length: every book is closed.

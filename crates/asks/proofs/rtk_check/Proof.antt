@@ -1,9 +1,9 @@
--- `register::rtk_check`: by the form of the whole register.
+-- `asks::rtk_check`: by the form of the whole register.
 -- Assumes nothing.
 use Rattle.form.proofs.Laws.{known}
 use borrow.Author.Needs.{needs}
-use Rattle.register.proofs.rtk_check.Statement.{statement}
-use Rattle.register.proofs.rtk_check.Tie as tie
+use Rattle.asks.proofs.rtk_check.Statement.{statement}
+use Rattle.asks.proofs.rtk_check.Tie as tie
 
 formed-requires : tie.Need-formed-requires
 formed-requires c κs = search needs
