@@ -20,7 +20,7 @@ use Rattle.paper.specs.Alone.{refusedAlone, next}
 use Rattle.paper.specs.Form.{formedO, InForm}
 use Rattle.paper.proofs.Tests.{among}
 use Rattle.paper.proofs.Stays.{formed-next}
-use Rattle.words.specs.Paste.{pasted}
+use Rattle.rows.specs.Paste.{pasted}
 use Rattle.book.specs.declared.Book.{Book}
 use Rattle.book.specs.declared.Step.{Step}
 use Rattle.book.specs.Meaning.{bookOf}
@@ -30,7 +30,7 @@ use Rattle.stored.specs.Image.{BOOK, bookBytes}
 use Rattle.lent.specs.Image.{LENGTH, image, meantFrom}
 use Rattle.lent.specs.Calls.{shut, callOn, called, Calls}
 use Rattle.shelf.specs.Steps.{foundOf, turnedAway, placedAt}
-use Rattle.words.proofs.Words.{Bytes}
+use Rattle.rows.proofs.Sizes.{Bytes}
 use Rattle.lent.proofs.Image.{form-length, image-set, state-in, state-out, form-image-is, form-state}
 use Rattle.shelf.proofs.Ways.{Found, found, elsewhere, Way, within, without, found-way, found-seen, found-meant, away-among}
 

@@ -6,10 +6,10 @@ use mathlib.Core.List.{List, [], _∷_, _++_, append-assoc, append-nil}
 use native.Mathlib.Omega.{arith}
 use native.Mathlib.Numerals.{add-one}
 use lib.ListN.{length, drop, length-append}
-use Rattle.words.specs.Blocks.{laid}
-use Rattle.words.specs.Paste.{pasted}
-use Rattle.words.proofs.Blocks.{laid-append}
-use Rattle.words.proofs.Paste.{pasted-nil, pasted-then}
+use Rattle.rows.specs.Blocks.{laid}
+use Rattle.rows.specs.Paste.{pasted}
+use Rattle.rows.proofs.Blocks.{laid-append}
+use Rattle.rows.proofs.Paste.{pasted-nil, pasted-then}
 use Rattle.paper.specs.Units.{Spot, Places}
 use Rattle.image.specs.Layout.{CELL-WORDS}
 use Rattle.image.specs.Places.{spotWords, cellsOf}

@@ -17,7 +17,7 @@ use Rattle.paper.specs.Calls.{Act, enter, correct, withdraw, makes, effect, aff
 use Rattle.paper.specs.Refusals.{FILLED, EMPTY, FAR}
 use Rattle.paper.specs.TurnedAway.{Rule, _when_, empty, far, lowest, rules}
 use Rattle.paper.proofs.Tests.{told-point}
-use Rattle.words.specs.Paste.{pasted}
+use Rattle.rows.specs.Paste.{pasted}
 use Rattle.image.specs.Lengths.{triple, termsOf, wordOr}
 use Rattle.image.specs.Places.{spotAt, placesOf, spotWords}
 use Rattle.image.specs.Changes.{change, entries, changeWords}

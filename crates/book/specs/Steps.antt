@@ -10,7 +10,7 @@ use Rattle.paper.specs.Units.{Place, inSheet, number, pointOf, isEmpty, near}
 use Rattle.paper.specs.Books as paper
 use Rattle.paper.specs.Calls.{Act}
 use Rattle.paper.specs.Alone.{refusedAlone, next}
-use Rattle.words.specs.Paste.{pasted}
+use Rattle.rows.specs.Paste.{pasted}
 use Rattle.image.specs.Layout.{CHANGE-WORDS}
 use Rattle.image.specs.Lengths.{triple, termsOf}
 use Rattle.image.specs.Places.{spotAt}

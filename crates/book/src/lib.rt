@@ -99,7 +99,7 @@ impl Book {
         ensures { λ r. ⌜ r ≡ aimOf self (record { series = series; set = set; point = point }) ⌝ }
     {
         if in_form(self) {
-            let place = image::place_of(series, set, point);
+            let place = numbers::place_of(series, set, point);
             if place >= Procedure::PLACES {
                 return Aim {
                     refusal: Refusal::PLACE,
@@ -153,9 +153,9 @@ impl Book {
                 book: self,
             };
         }
-        let wx = image::word_of(x);
-        let wy = image::word_of(y);
-        let wh = image::word_of(h);
+        let wx = numbers::word_of(x);
+        let wy = numbers::word_of(y);
+        let wh = numbers::word_of(h);
         let terms = self.terms;
         if ranges::near(&terms, aim.place, wx, wy, wh) {
             return Step {

@@ -10,7 +10,7 @@ use lib.ListN.{length, drop, length-drop, length-map, drop-of-length-le, replica
 use lib.IntN.{ℤ}
 use lib.Dec.{eqb}
 use borrow.Author.Tests.{eqb-true, eqb-false}
-use Rattle.words.specs.Paste.{pasted}
+use Rattle.rows.specs.Paste.{pasted}
 use Rattle.paper.specs.Units.{Terms, Places}
 use Rattle.image.specs.Layout.{TERM-WORDS, CELL-WORDS}
 use Rattle.image.specs.Lengths.{word, termWords}

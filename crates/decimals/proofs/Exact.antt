@@ -9,7 +9,7 @@ use borrow.Author.Tests.{lt-ltb, le-ltb, eq-eqb, ne-eqb, ltb-true, ltb-false, le
 use lib.Dec.{ltb, leb, eqb}
 use lib.ListN.{length}
 use lib.IntN.{ℤ, pos, negsuc, negℤ}
-use Rattle.words.specs.Lists.{All}
+use Rattle.rows.specs.Lists.{All}
 use Rattle.decimals.specs.Numbers.{digitsIn, digits, numeral, TWELVE-DIGITS, THIRTEEN-DIGITS, Short, AllShort, sepOf, line}
 use Rattle.decimals.specs.Reader.{Parsed, got, bad, then, fixed, stops, run, nonzero, below, above, number, field, ahead, numbers}
 use Rattle.decimals.proofs.Steps.{then-got, run-on, run-low}

@@ -10,7 +10,7 @@ use lib.Dec.{ltb}
 use borrow.Author.Tests.{ltb-true, ltb-false}
 use lib.ListN.{length, length-append}
 use lib.IntN.{ℤ, pos, negsuc}
-use Rattle.words.specs.Lists.{All}
+use Rattle.rows.specs.Lists.{All}
 use Rattle.decimals.specs.Numbers.{digits, numeral, Short, AllShort, sepOf, line}
 use Rattle.decimals.proofs.Exact.{digits-one, digits-more}
 

@@ -4,7 +4,7 @@ use mathlib.Core.Path.{_≡_}
 use mathlib.Core.List.{List}
 use lib.ListN.{length, drop}
 use lib.IntN.{ℤ}
-use Rattle.words.specs.Paste.{pasted}
+use Rattle.rows.specs.Paste.{pasted}
 use Rattle.image.specs.Lengths.{word}
 use Rattle.decimals.specs.Numbers.{THIRTEEN-DIGITS}
 use Rattle.decimals.specs.Reader.{Parsed, got, bad}

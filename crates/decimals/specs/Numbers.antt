@@ -5,7 +5,7 @@ use mathlib.Core.List.{List, [], _∷_, _++_}
 use lib.ListN.{length}
 use lib.Dec.{ltb}
 use lib.IntN.{ℤ, pos, negsuc, natAbs}
-use Rattle.words.specs.Lists.{All}
+use Rattle.rows.specs.Lists.{All}
 
 -- the decimal digits of n, at most k of them; '0' is 48
 unfoldable pub digitsIn : ℕ → ℕ → List ℕ

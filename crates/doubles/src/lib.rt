@@ -3,7 +3,7 @@ ghost use mathlib.Core.Path.{_≡_};
 ghost use Rattle.paper.specs.Figures.{doubles};
 ghost use Rattle.paper.specs.Verdicts.{verdict, markOf};
 ghost use Rattle.figures.specs.Judging.{SheetHeld, VerdictHeld, AllHeld};
-ghost use Rattle.doubles.specs.Doubles.{doubled};
+ghost use Rattle.doubles.specs.Doubles.{doubled, plainOf};
 use evaluation::Judgement;
 use paper::Judged;
 use paper::Mark;
@@ -16,10 +16,10 @@ pub fn sheet_of(f: Shown) -> Sheet
     requires { ⌜ SheetHeld f ⌝ }
     ensures { λ r. ⌜ r ≡ doubles f ⌝ }
 {
-    let x = whole::millimetres(f.sx);
-    let y = whole::millimetres(f.sy);
-    let xy = whole::millimetres(f.sxy);
-    let h = whole::millimetres(f.sh);
+    let x = roots::millimetres(f.sx);
+    let y = roots::millimetres(f.sy);
+    let xy = roots::millimetres(f.sxy);
+    let h = roots::millimetres(f.sh);
     Sheet {
         s_x: x,
         s_y: y,
@@ -33,8 +33,8 @@ pub fn verdict(j: Judged) -> Verdict
     requires { ⌜ VerdictHeld j ⌝ }
     ensures { λ r. ⌜ r ≡ verdict j ⌝ }
 {
-    let deviation = whole::millimetres(j.m);
-    let bound = whole::millimetres(j.b);
+    let deviation = roots::millimetres(j.m);
+    let bound = roots::millimetres(j.b);
     if j.within {
         return Verdict::Within(deviation, bound);
     }
@@ -87,6 +87,40 @@ pub fn in_millimetres(j: Judgement) -> Evaluated
         series: j.series,
         set: j.set,
         quantity: j.quantity,
+        sheet,
+        xy,
+        h,
+    }
+}
+
+// ---- the boundary
+
+// The figures of one book in millimetres, and a verdict for xy and for h.
+#[repr(C)]
+pub struct Evaluation {
+    pub refusal: u64,
+    pub series: u64,
+    pub set: u64,
+    pub quantity: u64,
+    pub sheet: Sheet,
+    pub xy: Mark,
+    pub h: Mark,
+}
+
+// An answer in millimetres as the record of the boundary.
+pub fn plain(e: Evaluated) -> Evaluation
+    ensures { λ r. ⌜ r ≡ plainOf e ⌝ }
+{
+    let sheet = e.sheet;
+    let position = e.xy;
+    let height = e.h;
+    let xy = mark_of(position);
+    let h = mark_of(height);
+    Evaluation {
+        refusal: e.refusal,
+        series: e.series,
+        set: e.set,
+        quantity: e.quantity,
         sheet,
         xy,
         h,

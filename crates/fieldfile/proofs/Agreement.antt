@@ -10,8 +10,8 @@ use borrow.Author.Tests.{le-leb, lt-leb, leb-true}
 use lib.Dec.{leb}
 use lib.ListN.{length, getD, length-append}
 use lib.IntN.{pos}
-use Rattle.words.specs.Lists.{All}
-use Rattle.words.proofs.Elements.{all-each}
+use Rattle.rows.specs.Lists.{All}
+use Rattle.rows.proofs.Elements.{all-each}
 use Rattle.paper.specs.Units.{Terms, termList, Spot, Places}
 use Rattle.image.specs.Lengths.{termsOf, termWords}
 use Rattle.image.specs.Places.{placesOf, cellsOf}

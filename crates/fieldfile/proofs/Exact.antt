@@ -11,7 +11,7 @@ use borrow.Author.Tests.{le-leb, ne-eqb, eqb-true}
 use lib.Dec.{leb, eqb}
 use lib.ListN.{length, length-append}
 use lib.IntN.{ℤ, pos, negsuc}
-use Rattle.words.specs.Lists.{All}
+use Rattle.rows.specs.Lists.{All}
 use Rattle.paper.specs.Units.{Triple, Terms, termList, Spot, Places}
 use Rattle.paper.proofs.Tests.{terms-order}
 use Rattle.decimals.specs.Numbers.{numeral, AllShort, sepOf, line}

@@ -7,7 +7,7 @@ use mathlib.Core.List.{List, [], _∷_, _++_}
 use native.Mathlib.Omega.{arith}
 use lib.ListN.{length, take, drop, take-append-drop, length-drop}
 use lib.Seq.{take-all, length-take-le, take-at, drop-at, drop-drop}
-use Rattle.words.proofs.Elements.{elements, elements-all, all-split, all-join}
+use Rattle.rows.proofs.Elements.{elements, elements-all, all-split, all-join}
 use lib.IntN.{ℤ, pos}
 use Rattle.paper.specs.Procedure.{PLACES}
 use Rattle.paper.specs.Units.{termList, Places, inOrder}

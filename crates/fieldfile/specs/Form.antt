@@ -5,7 +5,7 @@ use mathlib.Core.Option.{none, some}
 use mathlib.Core.List.{List, [], _∷_, _++_}
 use lib.ListN.{length, take, drop}
 use lib.IntN.{pos}
-use Rattle.words.specs.Lists.{All}
+use Rattle.rows.specs.Lists.{All}
 use Rattle.paper.specs.Procedure.{SETS, POINTS, PLACES}
 use Rattle.paper.specs.Units.{coordinates, Terms, termList, Spot, Places, inOrder, pointOf}
 use Rattle.decimals.specs.Ascii.{ascii}

@@ -39,7 +39,7 @@ fn figure(sum: u64) -> u64
     requires { ⌜ Modest sum ⌝ }
     ensures { λ r. ⌜ (r ≡ shown sum) × Held r ⌝ }
 {
-    whole::greatest(FIGURE, 1048576 * sum)
+    roots::greatest(FIGURE, 1048576 * sum)
 }
 
 // The figures of the four sums.
@@ -77,7 +77,7 @@ fn judged_by(times: u64, most: u64, divisor: u64, chi: u64, sum: u64, m: u64, si
 {
     let within = within_by(times, most, sum, sigma);
     let s = sigma - ORIGIN;
-    let b = whole::greatest(divisor, s * s * chi * 1048576);
+    let b = roots::greatest(divisor, s * s * chi * 1048576);
     Judged { within, m, b }
 }
 

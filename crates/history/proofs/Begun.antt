@@ -20,7 +20,7 @@ use Rattle.paper.proofs.History.{from-fresh, from-form}
 use Rattle.paper.proofs.Words.{Bare, bare}
 use Rattle.lent.specs.Image.{LENGTH, stateOf}
 use Rattle.lent.specs.Calls.{shut, callOn, called}
-use Rattle.words.proofs.Words.{Bytes}
+use Rattle.rows.proofs.Sizes.{Bytes}
 use Rattle.lent.proofs.Image.{state-image, fresh-image}
 use Rattle.history.specs.Runs.{answerOn, ran}
 use Rattle.history.specs.Claim.{readAs, HoldsOn}

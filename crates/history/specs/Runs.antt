@@ -1,5 +1,5 @@
 -- Exported calls, one after another, on lent bytes. Each call of document 01 on a register, with whatever numbers it is handed and
--- refused or not, is a `Call`; the contract of its export is an equation with `called` (crates `acts`, `asks`, `register`), and
+-- refused or not, is a `Call`; the contract of its export is an equation with `called` (crates `acts`, `asks`, `judges`, `register`), and
 -- nothing else of it is used.
 -- (Of the other exports rtk_check only looks at a register, and rtk_length and rtk_evaluate_file take none.)
 use Prim.Native.Nat.{ℕ}

@@ -11,10 +11,10 @@ use lib.Dec.{leb, eqb}
 use lib.IntN.{ℤ, pos, negsuc, natAbs, _-ℤ_}
 use borrow.Author.Tests.{leb-true, lt-leb}
 use Rattle.paper.specs.Procedure.{SPAN, SPREAD, EARTH, NEARBY}
-use Rattle.words.specs.Lists.{All}
-use Rattle.words.proofs.Elements.{Each, also, all-each, each-cons, each-replicate, each-map}
-use Rattle.words.proofs.Blocks.{each-laid}
-use Rattle.words.proofs.Words.{Small}
+use Rattle.rows.specs.Lists.{All}
+use Rattle.rows.proofs.Elements.{Each, also, all-each, each-cons, each-replicate, each-map}
+use Rattle.rows.proofs.Blocks.{each-laid}
+use Rattle.rows.proofs.Sizes.{Small}
 use Rattle.integers.specs.Diff.{abs-minus}
 use Rattle.paper.specs.Units.{Triple, coordinates, Terms, termList, from1To, upTo, onEarth, within, inRange, approximate, near, pointOf, nearAt, allNear, Spot, Places}
 use Rattle.paper.specs.Figures.{Axis, x-axis, y-axis, h-axis, along}

@@ -9,10 +9,10 @@ use lib.ListN.{length, getD, take, drop, replicate, length-drop, take-append-dro
 use lib.Seq.{take-at, drop-at}
 use lib.Dec.{eqb}
 use borrow.Author.Tests.{eqb-true}
-use Rattle.words.specs.Lists.{all?}
-use Rattle.words.specs.Blocks.{laid}
-use Rattle.words.proofs.Elements.{elements, elements-take}
-use Rattle.words.proofs.Blocks.{length-blocks, blocks-turn, blocks-laid, laid-blocks, length-laid, laid-append, laid-zeros}
+use Rattle.rows.specs.Lists.{all?}
+use Rattle.rows.specs.Blocks.{laid}
+use Rattle.rows.proofs.Elements.{elements, elements-take}
+use Rattle.rows.proofs.Blocks.{length-blocks, blocks-turn, blocks-laid, laid-blocks, length-laid, laid-append, laid-zeros}
 use Rattle.paper.specs.Procedure.{PLACES}
 use Rattle.paper.specs.Books.{Change}
 use Rattle.paper.proofs.Tests.{and-left, and-right}

@@ -12,7 +12,7 @@ use mir.Val.{toZ, ofZ, SFits}
 use mir.ValLaws.{toZ-ofZ}
 use borrow.Author.Tests.{lt-ltb, le-ltb}
 use Rattle.paper.specs.Procedure.{NEARBY}
-use Rattle.words.proofs.Elements.{elements, elements-all}
+use Rattle.rows.proofs.Elements.{elements, elements-all}
 use Rattle.integers.specs.Ring.{minus-minus}
 use Rattle.integers.specs.Diff.{bias-back, bias-le, minus-sub, sub-ge, sub-lt, sub-eq, ≤-or-<}
 use Rattle.paper.specs.Units.{Terms, termsGiven, termList, approximate}

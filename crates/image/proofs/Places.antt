@@ -11,10 +11,10 @@ use lib.Seq.{getD-drop, take-all}
 use lib.Dec.{eqb}
 use lib.IntN.{natAbs}
 use borrow.Author.Tests.{ne-eqb, eqb-true}
-use Rattle.words.specs.Blocks.{blocks}
-use Rattle.words.specs.Paste.{pasted}
-use Rattle.words.proofs.Elements.{elements, elements-take}
-use Rattle.words.proofs.Blocks.{length-blocks, block-at, blocks-laid, laid-blocks, length-laid, laid-set, laid-zeros}
+use Rattle.rows.specs.Blocks.{blocks}
+use Rattle.rows.specs.Paste.{pasted}
+use Rattle.rows.proofs.Elements.{elements, elements-take}
+use Rattle.rows.proofs.Blocks.{length-blocks, block-at, blocks-laid, laid-blocks, length-laid, laid-set, laid-zeros}
 use Rattle.paper.specs.Procedure.{PLACES}
 use Rattle.paper.specs.Units.{Place, inSheet, number, Spot, Places, isEmpty}
 use Rattle.paper.proofs.Tests.{below}

@@ -5,8 +5,8 @@ use mathlib.Core.Option.{none}
 use mathlib.Core.List.{List, [], _∷_}
 use lib.ListN.{getD}
 use lib.Dec.{eqb}
-use Rattle.words.specs.Lists.{all?}
-use Rattle.words.specs.Blocks.{blocks, laid}
+use Rattle.rows.specs.Lists.{all?}
+use Rattle.rows.specs.Blocks.{blocks, laid}
 use Rattle.paper.specs.Units.{Spot}
 use Rattle.paper.specs.Books.{Change}
 use Rattle.image.specs.Places.{spotAt, spotWords}

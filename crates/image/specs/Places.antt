@@ -5,7 +5,7 @@ use mathlib.Core.Option.{none, some}
 use mathlib.Core.List.{List, [], _∷_}
 use lib.ListN.{getD}
 use lib.Dec.{eqb}
-use Rattle.words.specs.Blocks.{blocks, laid}
+use Rattle.rows.specs.Blocks.{blocks, laid}
 use Rattle.paper.specs.Procedure.{PLACES}
 use Rattle.paper.specs.Units.{Place, inSheet, number, Spot, Places}
 use Rattle.paper.specs.Figures.{Axis, x-axis, y-axis, h-axis}

@@ -15,7 +15,7 @@ use Rattle.paper.specs.TurnedAway.{Rule, _when_, Lowest, refusal}
 use Rattle.paper.specs.Answers.{says, after}
 use Rattle.paper.proofs.Acts.{unless-refused}
 use Rattle.paper.proofs.Agreement.{rulesOf, rules-rise, says-rules, register-lowest}
-use Rattle.words.proofs.Words.{Bytes}
+use Rattle.rows.proofs.Sizes.{Bytes}
 use Rattle.lent.specs.Image.{LENGTH, image, meantFrom, inForm, stateOf}
 use Rattle.lent.specs.Calls.{shut, callOn, called, Calls}
 use Rattle.lent.proofs.Image.{state-in, state-out, form-image-is}

@@ -9,9 +9,9 @@ use mathlib.Core.Option.{none}
 use mathlib.Core.List.{List}
 use lib.ListN.{length, getD, take, drop}
 use lib.Seq.{take-at}
-use Rattle.words.specs.Blocks.{laid}
-use Rattle.words.proofs.Blocks.{laid-from}
-use Rattle.words.proofs.Words.{Bytes}
+use Rattle.rows.specs.Blocks.{laid}
+use Rattle.rows.proofs.Blocks.{laid-from}
+use Rattle.rows.proofs.Sizes.{Bytes}
 use Rattle.paper.specs.Procedure.{BOOKS}
 use Rattle.paper.specs.Books as paper
 use Rattle.paper.specs.Calls.{Act, on, effect, affected}

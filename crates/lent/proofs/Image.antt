@@ -16,13 +16,13 @@ use Rattle.paper.specs.Books as paper
 use Rattle.paper.specs.Form.{formedO, InForm}
 use Rattle.integers.specs.Diff.{≤-or-<}
 use Rattle.paper.proofs.Tests.{and-left, and-right}
-use Rattle.words.specs.Lists.{all?}
-use Rattle.words.specs.Blocks.{blocks, laid}
+use Rattle.rows.specs.Lists.{all?}
+use Rattle.rows.specs.Blocks.{blocks, laid}
 use Rattle.words.specs.Words.{bytesOf}
-use Rattle.words.specs.Paste.{pasted}
-use Rattle.words.proofs.Elements.{tests-append, test-at}
-use Rattle.words.proofs.Blocks.{length-blocks, blocks-add, block-at, blocks-turn, blocks-over, tests-blocks, length-laid, laid-from, laid-set, laid-zeros, blocks-laid, laid-blocks}
-use Rattle.words.proofs.Words.{Bytes, bytes-drop}
+use Rattle.rows.specs.Paste.{pasted}
+use Rattle.rows.proofs.Elements.{tests-append, test-at}
+use Rattle.rows.proofs.Blocks.{length-blocks, blocks-add, block-at, blocks-turn, blocks-over, tests-blocks, length-laid, laid-from, laid-set, laid-zeros, blocks-laid, laid-blocks}
+use Rattle.rows.proofs.Sizes.{Bytes, bytes-drop}
 use Rattle.book.specs.declared.Book.{Book}
 use Rattle.book.specs.Meaning.{bookOf, meant, bookForm}
 use Rattle.book.proofs.Meaning.{form-book, form-formed, meant-image, form-image}

@@ -6,8 +6,8 @@ use mathlib.Core.Option.{Option, none, some}
 use mathlib.Core.List.{List}
 use lib.ListN.{length, drop}
 use lib.Dec.{eqb}
-use Rattle.words.specs.Lists.{all?}
-use Rattle.words.specs.Blocks.{blocks, laid}
+use Rattle.rows.specs.Lists.{all?}
+use Rattle.rows.specs.Blocks.{blocks, laid}
 use Rattle.paper.specs.Procedure.{BOOKS}
 use Rattle.paper.specs.Books as paper
 use Rattle.book.specs.declared.Book.{Book}

@@ -36,7 +36,7 @@ pub fn most_passing(s: u64) -> u64
     ensures { λ r. ⌜ r ≡ mostPassing (len s) ⌝ }
 {
     let most = limit(s);
-    whole::greatest(2, most)
+    roots::greatest(2, most)
 }
 
 // Whether the nearest root of q is further than most from a number. No root is taken.
@@ -44,9 +44,9 @@ pub fn further(q: u64, about: u64, most: u64) -> bool
     requires { ⌜ about + most < 2 ^ 32 ⌝ }
     ensures { λ r. ⌜ r ≡ ltb most (natAbs (pos (nearestOf q) -ℤ pos about)) ⌝ }
 {
-    if whole::nearest_at_most(q, about + most) {
+    if roots::nearest_at_most(q, about + most) {
         if most < about {
-            return whole::nearest_at_most(q, about - most - 1);
+            return roots::nearest_at_most(q, about - most - 1);
         }
         return false;
     }

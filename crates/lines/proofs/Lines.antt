@@ -7,8 +7,8 @@ use native.Mathlib.Omega.{arith}
 use native.Mathlib.Nat.{sub-zero}
 use lib.ListN.{length, drop, set, length-append, length-set, length-map}
 use lib.IntN.{ℤ}
-use Rattle.words.specs.Paste.{pasted}
-use Rattle.words.proofs.Paste.{pasted-nil}
+use Rattle.rows.specs.Paste.{pasted}
+use Rattle.rows.proofs.Paste.{pasted-nil}
 use Rattle.image.specs.Lengths.{word}
 use Rattle.decimals.specs.Numbers.{sepOf}
 use Rattle.decimals.specs.Reader.{bad, field, ahead, numbers}

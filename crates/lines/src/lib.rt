@@ -34,7 +34,7 @@ pub fn field_at(s: &[u8], at: usize, sep: u8) -> Read
     requires { ⌜ at ≤ length (now s) ⌝ }
     ensures { λ r. ⌜ Gives Word (now (s .entry)) at r (field sep (drop at (now (s .entry)))) ⌝ }
 {
-    let Read::At(z, n) = decimals::number_at(s, at) else {
+    let Read::At(z, n) = digits::number_at(s, at) else {
         return Read::Bad;
     };
     let end = [sep];

@@ -55,7 +55,7 @@ pub fn begin(
 ) -> Step
     ensures { λ r. ⌜ r ≡ stepOf (begin (termsGiven distance height sxy sh gxy gh x1 y1 h1 x2 y2 h2)) b ⌝ }
 {
-    let terms = image::terms_of(distance, height, sxy, sh, gxy, gh, x1, y1, h1, x2, y2, h2);
+    let terms = numbers::terms_of(distance, height, sxy, sh, gxy, gh, x1, y1, h1, x2, y2, h2);
     begin_words(b, terms)
 }
 

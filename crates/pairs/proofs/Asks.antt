@@ -18,7 +18,7 @@ use Rattle.book.specs.Meaning.{bookForm, seen}
 use Rattle.book.proofs.Meaning.{meant-closed, meant-open, seen-in, seen-out}
 use Rattle.comparison.specs.Comparing.{AnAxis, comparisonTo, comparedOf, notCompared}
 use Rattle.comparison.proofs.Asked.{compare-asked}
-use Rattle.questions.proofs.Opened.{Opened, words-seen}
+use Rattle.book.proofs.Opened.{Opened, words-seen}
 use Rattle.pairs.specs.Asked.{refusedOf}
 
 -- no refusal before 10

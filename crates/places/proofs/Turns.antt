@@ -6,8 +6,8 @@ use mathlib.Core.Path.{_≡_, refl, sym, ap, _∙_}
 use mathlib.Core.Bool.{Bool, true, false, _&&_, and-true}
 use mathlib.Core.List.{List, [], _∷_}
 use lib.ListN.{drop}
-use Rattle.words.specs.Blocks.{blocks}
-use Rattle.words.proofs.Blocks.{blocks-turn, blocks-over}
+use Rattle.rows.specs.Blocks.{blocks}
+use Rattle.rows.proofs.Blocks.{blocks-turn, blocks-over}
 use Rattle.paper.specs.Procedure.{ROUNDS, PLACES}
 use Rattle.paper.specs.Units.{Terms, Spot, Places, isEmpty, nearAt, allNear}
 use Rattle.paper.specs.TurnedAway.{some?}

@@ -4,7 +4,7 @@ ghost use mathlib.Core.List.{[], _∷_};
 ghost use Prim.Native.Nat.{_*_, _<_};
 ghost use lib.ListN.{getD};
 ghost use Rattle.paper.specs.Procedure.{PLACES};
-ghost use Rattle.words.specs.Paste.{pasted};
+ghost use Rattle.rows.specs.Paste.{pasted};
 use image::Layout;
 
 // The places with three words at one of them.

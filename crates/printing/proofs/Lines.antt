@@ -5,7 +5,7 @@ use mathlib.Core.Path.{_≡_, refl, sym, _∙_, ap}
 use mathlib.Core.List.{List, [], _∷_, _++_, append-assoc, append-nil, map}
 use native.Mathlib.Omega.{arith}
 use lib.ListN.{length, drop, getD, length-append, length-map, length-drop, drop-of-length-le}
-use Rattle.words.proofs.Paste.{pasted-nil}
+use Rattle.rows.proofs.Paste.{pasted-nil}
 use Rattle.image.specs.Lengths.{len}
 use Rattle.decimals.specs.Numbers.{numeral, sepOf, line}
 use Rattle.decimals.proofs.Steps.{front}

@@ -8,8 +8,8 @@ use native.Mathlib.Omega.{arith}
 use native.Mathlib.Numerals.{add-one}
 use lib.ListN.{length, take, set, getD, length-append}
 use lib.Seq.{length-take-le, take-suc, take-all}
-use Rattle.words.specs.Paste.{pasted}
-use Rattle.words.proofs.Paste.{pasted-nil, pasted-then}
+use Rattle.rows.specs.Paste.{pasted}
+use Rattle.rows.proofs.Paste.{pasted-nil, pasted-then}
 use Rattle.image.specs.Lengths.{ORIGIN, len}
 use Rattle.integers.specs.Diff.{sub-lt}
 use Rattle.image.proofs.Lengths.{len-pos}

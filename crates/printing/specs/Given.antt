@@ -3,7 +3,7 @@ use Prim.Native.Nat.{ℕ, _+_}
 use mathlib.Core.Path.{_≡_}
 use mathlib.Core.List.{List}
 use lib.ListN.{length}
-use Rattle.words.specs.Paste.{pasted}
+use Rattle.rows.specs.Paste.{pasted}
 
 -- a text was written into a row from `at` on, and ends at r
 pub record Put (out : List ℕ) (at : ℕ) (text last : List ℕ) (r : ℕ) : Type 0 where

@@ -25,7 +25,7 @@ use Rattle.sums.specs.Places.{placeAt}
 use Rattle.sums.proofs.Places.{place-back}
 use Rattle.evaluation.specs.Evaluating.{answerTo, judgementOf, notJudged}
 use Rattle.evaluation.proofs.Asked.{evaluate-asked}
-use Rattle.questions.proofs.Opened.{Opened, words-seen}
+use Rattle.book.proofs.Opened.{Opened, words-seen}
 
 -- ---- evaluation
 

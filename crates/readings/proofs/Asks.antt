@@ -15,7 +15,7 @@ use Rattle.paper.specs.Books as paper
 use Rattle.paper.specs.Calls.{Question, read, changes}
 use Rattle.paper.specs.Refusals.{REGISTER, PLACE, CLOSED, EMPTY}
 use Rattle.paper.specs.TurnedAway.{Rule, lowest, questioned, empty}
-use Rattle.paper.specs.Answers.{lengths, given, beside, says}
+use Rattle.paper.specs.Answers.{lengths, Answer, given, beside, says}
 use Rattle.paper.specs.Alone.{askedAlone}
 use Rattle.paper.proofs.Form.{parts}
 use Rattle.paper.proofs.Stays.{near-there}
@@ -31,6 +31,7 @@ use Rattle.book.proofs.Meaning.{Sized, form-sound, meant-closed, meant-open, se
 use Rattle.book.proofs.Steps.{sightO, ranged, kept-count}
 use Rattle.book.proofs.Sought.{On, placed, Sought, before, there, place-small, sought-way, sought-on, spot-there, empty-is}
 use Rattle.readings.specs.declared.Lengths.{Lengths}
+use Rattle.readings.specs.declared.Count.{Count}
 use Rattle.readings.specs.Answers.{lengthsBy, lengthsOf, countBy, countOf}
 
 -- ---- lengths
@@ -117,3 +118,17 @@ module _ (b : Book) where
   pub count-open : Sized b → bookForm b ≡ true → (b .opened ≡ 0 → ⊥) → countBy 0 (b .kept) ≡ countOf (askedAlone changes (seen b))
   unfolding countOf askedAlone says lowest questioned given paper.sight
   count-open s e f = rw (seen-in b e, meant-open b f, kept-count b s (form-sound b e f))
+
+-- ---- with another refusal
+
+module _ (a : Answer) (turn : ℕ → ℕ) (r : ℕ) where
+  abbrev turned : Answer
+  turned = record { refused = turn (a .refused); suspect = a .suspect; value = a .value }
+
+  pub lengths-turned : (l : Lengths) → l ≡ lengthsOf a → r ≡ turn (l .refusal) → record { refusal = r; x = l .x; y = l .y; h = l .h } ≡ lengthsOf turned
+  unfolding lengthsOf
+  lengths-turned l e w = rw (w, e)
+
+  pub count-turned : (n : Count) → n ≡ countOf a → r ≡ turn (n .refusal) → record { refusal = r; count = n .count } ≡ countOf turned
+  unfolding countOf
+  count-turned n e w = rw (w, e)

@@ -54,9 +54,9 @@ pub fn read(b: Book, series: u64, set: u64, point: u64) -> Lengths
     let m = aim.place * Layout::READING;
     Lengths {
         refusal: 0,
-        x: image::length_of(cells[m]),
-        y: image::length_of(cells[m + 1]),
-        h: image::length_of(cells[m + 2]),
+        x: numbers::length_of(cells[m]),
+        y: numbers::length_of(cells[m + 1]),
+        h: numbers::length_of(cells[m + 2]),
     }
 }
 

@@ -16,7 +16,7 @@ use Rattle.paper.specs.Calls.{fresh, ask, passList}
 use Rattle.paper.specs.Refusals.{REGISTER, ROOM}
 use Rattle.paper.specs.TurnedAway.{lowest, questioned, passing}
 use Rattle.paper.specs.Answers.{says, after, given, beside}
-use Rattle.words.specs.Paste.{pasted}
+use Rattle.rows.specs.Paste.{pasted}
 use Rattle.readings.specs.Answers.{countBy, countOf}
 use Rattle.lent.specs.Image.{LENGTH, meantFrom, inForm}
 use Rattle.lent.specs.Calls.{shut, callOn, called, Calls}

@@ -10,7 +10,7 @@ use lib.Dec.{eqb}
 use lib.ListN.{length, take, drop, replicate, length-append}
 use lib.Seq.{take-append-seam}
 use lib.IntN.{pos}
-use Rattle.words.specs.Paste.{pasted}
+use Rattle.rows.specs.Paste.{pasted}
 use Rattle.paper.specs.Refusals.{SUSPECT}
 use Rattle.paper.specs.Screening.{Suspect}
 use Rattle.paper.specs.declared.Judged.{Judged}

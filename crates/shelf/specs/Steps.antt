@@ -9,7 +9,7 @@ use Rattle.paper.specs.Refusals.{REGISTER, PLACE}
 use Rattle.paper.specs.Procedure.{BOOKS}
 use Rattle.paper.specs.Units.{oneTo}
 use Rattle.words.specs.Words.{bytesOf}
-use Rattle.words.specs.Paste.{pasted}
+use Rattle.rows.specs.Paste.{pasted}
 use Rattle.book.specs.declared.Book.{Book}
 use Rattle.book.specs.Meaning.{bookOf}
 use Rattle.stored.specs.Image.{BOOK, wordsOf, bookAt}

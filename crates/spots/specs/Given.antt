@@ -2,7 +2,7 @@
 use Prim.Native.Nat.{ℕ}
 use mathlib.Core.Path.{_≡_}
 use mathlib.Core.List.{List}
-use Rattle.words.specs.Paste.{pasted}
+use Rattle.rows.specs.Paste.{pasted}
 use Rattle.paper.specs.Units.{Spot}
 use Rattle.image.specs.Places.{spotWords}
 

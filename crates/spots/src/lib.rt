@@ -3,7 +3,7 @@ ghost use mathlib.Core.Path.{_≡_};
 ghost use mathlib.Core.List.{[], _∷_};
 ghost use Prim.Native.Nat.{_+_, _≤_, _<_};
 ghost use lib.ListN.{length, drop};
-ghost use Rattle.words.specs.Paste.{pasted};
+ghost use Rattle.rows.specs.Paste.{pasted};
 ghost use Rattle.decimals.specs.Reader.{fixed};
 ghost use Rattle.decimals.specs.Given.{Gives, Nothing};
 ghost use Rattle.fieldfile.specs.Reader.{IN-SERIES, tag, spot};

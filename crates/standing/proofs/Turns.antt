@@ -8,7 +8,7 @@ use mathlib.Core.List.{List, _∷_}
 use lib.ListN.{length, getD, set, drop, length-set}
 use lib.Seq.{getD-drop}
 use lib.Dec.{eqb}
-use Rattle.words.proofs.Blocks.{blocks-turn, blocks-over}
+use Rattle.rows.proofs.Blocks.{blocks-turn, blocks-over}
 use Rattle.paper.specs.Procedure.{PLACES}
 use Rattle.paper.specs.Units.{Terms, Places}
 use Rattle.paper.specs.Books.{Change, make}

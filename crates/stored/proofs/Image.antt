@@ -12,12 +12,13 @@ use Rattle.paper.specs.Procedure.{KEPT}
 use Rattle.paper.specs.Books as paper
 use Rattle.paper.specs.Form.{formedO}
 use Rattle.paper.proofs.Form.{parts}
-use Rattle.words.specs.Blocks.{blocks}
+use Rattle.rows.specs.Blocks.{blocks}
 use Rattle.words.specs.Words.{wordIn, words, digits, bytesOf}
-use Rattle.words.proofs.Elements.{each-replicate}
-use Rattle.words.proofs.Blocks.{length-blocks, blocks-add, laid-zeros}
-use Rattle.words.proofs.Words.{Bytes, Small, length-bytesOf, bytesOf-words}
-use Rattle.words.proofs.Paste.{pasted-start}
+use Rattle.rows.proofs.Elements.{each-replicate}
+use Rattle.rows.proofs.Blocks.{length-blocks, blocks-add, laid-zeros}
+use Rattle.rows.proofs.Sizes.{Bytes, Small}
+use Rattle.words.proofs.Words.{length-bytesOf, bytesOf-words}
+use Rattle.rows.proofs.Paste.{pasted-start}
 use Rattle.image.specs.Layout.{TERM-WORDS, CELL-WORDS, CHANGE-WORDS}
 use Rattle.image.proofs.Bounds.{small-terms, small-cells, small-changes, places-short, kept-short}
 use Rattle.book.specs.declared.Book.{Book}

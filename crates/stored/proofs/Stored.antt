@@ -5,12 +5,13 @@ use mathlib.Core.List.{List, _∷_, _++_, append-assoc, append-nil}
 use Prim.Native.Nat.{ℕ, _+_, _*_, _^_, _≤_, _<_}
 use native.Mathlib.Omega.{arith}
 use lib.ListN.{length, take, drop, length-append}
-use Rattle.words.specs.Blocks.{laid}
+use Rattle.rows.specs.Blocks.{laid}
 use Rattle.words.specs.Words.{le, digits, words, bytesOf}
-use Rattle.words.specs.Paste.{pasted}
-use Rattle.words.proofs.Blocks.{laid-append}
-use Rattle.words.proofs.Words.{Small, length-digits, length-bytesOf, words-front, word-front}
-use Rattle.words.proofs.Paste.{pasted-then, drop-pasted, next-drop}
+use Rattle.rows.specs.Paste.{pasted}
+use Rattle.rows.proofs.Blocks.{laid-append}
+use Rattle.rows.proofs.Sizes.{Small}
+use Rattle.words.proofs.Words.{length-digits, length-bytesOf, words-front, word-front}
+use Rattle.rows.proofs.Paste.{pasted-then, drop-pasted, next-drop}
 use Rattle.image.specs.Layout.{TERM-WORDS, CELL-WORDS, CHANGE-WORDS}
 use Rattle.book.specs.declared.Book.{Book}
 use Rattle.book.proofs.Meaning.{Sized}

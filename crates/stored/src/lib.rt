@@ -4,7 +4,7 @@ ghost use mathlib.Core.List.{_∷_};
 ghost use Prim.Native.Nat.{_+_, _*_, _≤_};
 ghost use lib.ListN.{length};
 ghost use Rattle.words.specs.Words.{bytesOf};
-ghost use Rattle.words.specs.Paste.{pasted};
+ghost use Rattle.rows.specs.Paste.{pasted};
 ghost use Rattle.book.specs.Meaning.{bookForm};
 ghost use Rattle.stored.specs.Image.{BOOK, wordsOf, bookAt};
 use book::Book;

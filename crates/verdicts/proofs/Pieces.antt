@@ -11,7 +11,7 @@ use Rattle.paper.specs.declared.Judged.{Judged}
 use Rattle.image.specs.Lengths.{ORIGIN, len}
 use Rattle.image.proofs.Lengths.{len-up}
 use Rattle.decimals.specs.Ascii.{ascii}
-use Rattle.words.specs.Lists.{All}
+use Rattle.rows.specs.Lists.{All}
 use Rattle.decimals.specs.Numbers.{AllShort, line}
 use Rattle.decimals.proofs.Long.{long-line}
 use Rattle.printing.specs.Given.{Put}

@@ -8,11 +8,12 @@ use native.Mathlib.Omega.{arith}
 use native.Mathlib.Nat.{mul-zero, add-zero, suc-add, zero-add, mul-assoc, pow-succ', div-one, div-div-eq-div-mul}
 use lib.ListN.{set, length, take, drop, getD, length-drop}
 use lib.Seq.{set-at, append-snoc, drop-cons, drop-drop, length-take-le, getD-drop, take-at, take-suc}
-use Rattle.words.specs.Blocks.{blocks, laid}
+use Rattle.rows.specs.Blocks.{blocks, laid}
 use Rattle.words.specs.Words.{le, fourAt, digits, wordIn, words, bytesOf}
-use Rattle.words.specs.Paste.{pasted}
-use Rattle.words.proofs.Paste.{pasted-then, stores-pasted}
-use Rattle.words.proofs.Blocks.{length-blocks, blocks-add, blocks-laid, laid-blocks, length-laid, laid-append}
+use Rattle.rows.specs.Paste.{pasted}
+use Rattle.rows.proofs.Paste.{pasted-then, stores-pasted}
+use Rattle.rows.proofs.Sizes.{Bytes, Small, bytes-drop, bytes-take}
+use Rattle.rows.proofs.Blocks.{length-blocks, blocks-add, blocks-laid, laid-blocks, length-laid, laid-append}
 
 -- ---- digits
 
@@ -54,23 +55,6 @@ digits-parts zero m w = let e : 256 ^ 0 ≡ 1 = refl in rw (zero-add, e, div-one
 digits-parts (suc n) m w = rw (suc-add, digits-parts n m (w / 256), pow-succ' 256 n, div-div-eq-div-mul)
 
 -- ---- words
-
--- each byte of a row is one
-abbrev pub Bytes : List ℕ → Type 0
-Bytes bs = (i : ℕ) → getD bs i 0 < 256
-
--- each word of a row is one
-abbrev pub Small : List ℕ → Type 0
-Small ws = (i : ℕ) → getD ws i 0 < 2 ^ 64
-
-pub bytes-drop : (m : ℕ) (bs : List ℕ) → Bytes bs → Bytes (drop m bs)
-bytes-drop m bs h i = rw getD-drop (h (m + i))
-
-bytes-take : (n : ℕ) (bs : List ℕ) → Bytes bs → Bytes (take n bs)
-bytes-take zero bs h i = omega arith
-bytes-take (suc n) [] h i = omega arith
-bytes-take (suc n) (b ∷ bs) h zero = h 0
-bytes-take (suc n) (b ∷ bs) h (suc i) = bytes-take n bs (λ j. h (suc j)) i
 
 pub length-bytesOf : (ws : List ℕ) → length (bytesOf ws) ≡ 8 * length ws
 length-bytesOf ws = omega (arith, length-laid 8 (digits 8) 0 ws (λ i. length-digits 8 (getD ws i 0)))

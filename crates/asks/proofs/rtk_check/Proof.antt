@@ -1,6 +1,6 @@
 -- `asks::rtk_check`: by the form of the whole register.
 -- Assumes nothing.
-use Rattle.form.proofs.Laws.{known}
+use Rattle.paper.proofs.Tests.{known}
 use borrow.Author.Needs.{needs}
 use Rattle.asks.proofs.rtk_check.Statement.{statement}
 use Rattle.asks.proofs.rtk_check.Tie as tie

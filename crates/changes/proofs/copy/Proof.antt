@@ -6,7 +6,7 @@ use mathlib.Core.List.{_++_, append-nil}
 use native.Mathlib.Omega.{arith}
 use lib.ListN.{length, take, drop, length-set}
 use lib.Seq.{drop-length, take-length}
-use Rattle.words.proofs.Paste.{copied-more}
+use Rattle.rows.proofs.Paste.{copied-more}
 use Rattle.changes.proofs.copy.Statement.{statement}
 use Rattle.changes.proofs.copy.Tie as tie
 

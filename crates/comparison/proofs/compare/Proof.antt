@@ -1,7 +1,7 @@
 -- `comparison::compare` meets its contract. Assumes nothing.
 use mathlib.Core.Path.{_∙_}
 use borrow.Author.Needs.{needs}
-use Rattle.form.proofs.Laws.{known}
+use Rattle.paper.proofs.Tests.{known}
 use Rattle.places.proofs.Meets.{ready}
 use Rattle.comparison.proofs.Comparing.{short-first, short-second, both-full}
 use Rattle.comparison.proofs.compare.Statement.{statement}

@@ -1,7 +1,7 @@
 -- `evaluation::judged` meets its contract. Assumes nothing.
 use mathlib.Core.Path.{_∙_}
 use borrow.Author.Needs.{needs}
-use Rattle.form.proofs.Laws.{known}
+use Rattle.paper.proofs.Tests.{known}
 use Rattle.places.proofs.Meets.{ready}
 use Rattle.evaluation.proofs.Evaluating.{short-is, full-is}
 use Rattle.evaluation.proofs.judged.Statement.{statement}

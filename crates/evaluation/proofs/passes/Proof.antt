@@ -1,7 +1,7 @@
 -- `evaluation::passes` meets its contract. Assumes nothing.
 use mathlib.Core.Path.{sym, _∙_}
 use borrow.Author.Needs.{needs}
-use Rattle.form.proofs.Laws.{known}
+use Rattle.paper.proofs.Tests.{known}
 use Rattle.places.proofs.Meets.{ready}
 use Rattle.evaluation.proofs.Evaluating.{short-off, suspect-off, clear-on}
 use Rattle.evaluation.proofs.passes.Statement.{statement}

@@ -1,7 +1,7 @@
 -- `filebook::read_book`: by what the file holds: FORM, TERMS, FAR, or its book.
 -- Assumes nothing.
 use mathlib.Core.Path.{ap, _∙_}
-use Rattle.form.proofs.Laws.{known}
+use Rattle.paper.proofs.Tests.{known}
 use Rattle.book.specs.declared.Book.{Book}
 use Rattle.book.specs.Steps.{step}
 use Rattle.filebook.proofs.Ways.{unread, was-read, way-form, way-terms, way-far, way-book}

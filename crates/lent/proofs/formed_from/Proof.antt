@@ -3,7 +3,7 @@
 use Prim.Native.Nat.{_≤_, _<_, _-_}
 use native.Mathlib.Omega.{arith}
 use mathlib.Core.Path.{_≡_, refl, sym, _∙_}
-use Rattle.form.proofs.Laws.{known}
+use Rattle.paper.proofs.Tests.{known}
 use Rattle.lent.proofs.Image.{formLeft, form-on, form-stop, form-end, between-long, between-is}
 use borrow.Author.Needs.{needs}
 use Rattle.lent.proofs.formed_from.Statement.{statement}

@@ -8,7 +8,7 @@ use lib.ListN.{length, take, length-set}
 use Rattle.paper.specs.Procedure.{BOOKS}
 use Rattle.paper.specs.Screening.{each}
 use Rattle.paper.specs.TurnedAway.{passing}
-use Rattle.form.proofs.Laws.{known}
+use Rattle.paper.proofs.Tests.{known}
 use Rattle.listing.proofs.Turns.{listedBy, list-more, list-same}
 use Rattle.listing.proofs.listed.Statement.{statement}
 use Rattle.listing.proofs.listed.Tie as tie

@@ -3,7 +3,7 @@
 use native.Mathlib.Omega.{arith}
 use mathlib.Core.Path.{_∙_}
 use Rattle.lent.proofs.Image.{form-length, form-at}
-use Rattle.questions.proofs.Opened.{words-formed}
+use Rattle.book.proofs.Opened.{words-formed}
 use Rattle.listing.proofs.Turns.{closed-not, open-passes}
 use borrow.Author.Needs.{needs}
 use Rattle.listing.proofs.on_list.Statement.{statement}

@@ -2,7 +2,7 @@
 -- Assumes nothing.
 use mathlib.Core.Path.{_≡_, _∙_}
 use lib.ListN.{length}
-use Rattle.form.proofs.Laws.{known}
+use Rattle.paper.proofs.Tests.{known}
 use Rattle.book.proofs.Meaning.{Sized}
 use Rattle.book.proofs.Steps.{step-unformed}
 use Rattle.opening.proofs.Opened.{begin-open, begin-range, begun-with, blank-words}

@@ -1,6 +1,6 @@
 -- `opening::strike`: by the form, and whether the book is open.
 -- Assumes nothing.
-use Rattle.form.proofs.Laws.{known}
+use Rattle.paper.proofs.Tests.{known}
 use Rattle.book.proofs.Meaning.{Sized}
 use Rattle.book.proofs.Steps.{step-unformed}
 use Rattle.opening.proofs.Opened.{strike-closed, struck}

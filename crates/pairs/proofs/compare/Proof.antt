@@ -1,6 +1,6 @@
 -- `pairs::compare` meets its contract. Assumes nothing.
 use mathlib.Core.Path.{sym, _∙_}
-use Rattle.questions.proofs.Opened.{words-formed}
+use Rattle.book.proofs.Opened.{words-formed}
 use Rattle.pairs.proofs.Asks.{Comparable, comparable, compared-refused, compared-open}
 use borrow.Author.Needs.{needs}
 use Rattle.pairs.proofs.compare.Statement.{statement}

@@ -1,6 +1,6 @@
 -- `pairs::refused` meets its contract. Assumes nothing.
 use mathlib.Core.Path.{sym}
-use Rattle.form.proofs.Laws.{known}
+use Rattle.paper.proofs.Tests.{known}
 use Rattle.pairs.specs.Asked.{refusedOf}
 use borrow.Author.Needs.{needs}
 use Rattle.pairs.proofs.refused.Statement.{statement}

@@ -4,7 +4,7 @@ use native.Mathlib.Omega.{arith}
 use mathlib.Core.Path.{_≡_}
 use lib.ListN.{length}
 use Rattle.image.specs.Layout.{CELL-WORDS}
-use Rattle.words.proofs.Paste.{three-pasted}
+use Rattle.rows.proofs.Paste.{three-pasted}
 use borrow.Author.Needs.{needs}
 use Rattle.placing.proofs.put.Statement.{statement}
 use Rattle.placing.proofs.put.Tie as tie

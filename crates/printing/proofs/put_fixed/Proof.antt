@@ -4,7 +4,7 @@ use Prim.Native.Nat.{_-_, _≤_}
 use mathlib.Core.Path.{_≡_}
 use borrow.Author.Needs.{needs}
 use lib.ListN.{length, take}
-use Rattle.words.specs.Paste.{pasted}
+use Rattle.rows.specs.Paste.{pasted}
 use Rattle.printing.proofs.Rows.{pasted-start, pasted-take, put-all}
 use Rattle.printing.proofs.put_fixed.Statement.{statement}
 use Rattle.printing.proofs.put_fixed.Tie as tie

@@ -1,7 +1,7 @@
 -- `questions::judge` meets its contract. Assumes nothing.
 use mathlib.Core.Path.{_∙_}
-use Rattle.form.proofs.Laws.{known}
-use Rattle.questions.proofs.Opened.{words-formed}
+use Rattle.paper.proofs.Tests.{known}
+use Rattle.book.proofs.Opened.{words-formed}
 use Rattle.questions.proofs.Asks.{judged-unformed, judged-closed, judged-open}
 use borrow.Author.Needs.{needs}
 use Rattle.questions.proofs.judge.Statement.{statement}

@@ -1,12 +1,12 @@
 -- `questions::residual` meets its contract. Assumes nothing.
 use mathlib.Core.Path.{ap, _∙_}
 use Rattle.paper.specs.Units.{Place}
-use Rattle.form.proofs.Laws.{known}
+use Rattle.paper.proofs.Tests.{known}
 use Rattle.places.proofs.Meets.{ready}
 use Rattle.book.specs.declared.Aim.{Aim}
 use Rattle.book.proofs.Meaning.{Sized}
 use Rattle.book.proofs.Sought.{place-small}
-use Rattle.questions.proofs.Opened.{words-formed}
+use Rattle.book.proofs.Opened.{words-formed}
 use Rattle.questions.proofs.Asks.{residual-refused, aimed, on-opened, residual-short, residual-full}
 use borrow.Author.Needs.{needs}
 use Rattle.questions.proofs.residual.Statement.{statement}

@@ -1,7 +1,7 @@
 -- `readings::changes`: by the form, and whether the book is open.
 -- Assumes nothing.
 use mathlib.Core.Path.{_∙_}
-use Rattle.form.proofs.Laws.{known}
+use Rattle.paper.proofs.Tests.{known}
 use Rattle.book.proofs.Meaning.{Sized}
 use Rattle.readings.proofs.Asks.{count-unformed, count-closed, count-open}
 use borrow.Author.Needs.{needs}

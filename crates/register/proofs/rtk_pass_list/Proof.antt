@@ -5,7 +5,7 @@ use mathlib.Core.Path.{_≡_, sym, _∙_}
 use lib.Seq.{length-take-le}
 use lib.ListN.{length}
 use Rattle.paper.specs.Procedure.{BOOKS}
-use Rattle.form.proofs.Laws.{known}
+use Rattle.paper.proofs.Tests.{known}
 use Rattle.register.proofs.Ways.{list-unformed, list-room, list-written}
 use borrow.Author.Needs.{needs}
 use Rattle.register.proofs.rtk_pass_list.Statement.{statement}

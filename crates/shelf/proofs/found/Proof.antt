@@ -1,6 +1,6 @@
 -- `shelf::found`: by the form of the others.
 -- Assumes nothing.
-use Rattle.form.proofs.Laws.{known}
+use Rattle.paper.proofs.Tests.{known}
 use Rattle.shelf.specs.Steps.{foundOf}
 use borrow.Author.Needs.{needs}
 use Rattle.shelf.proofs.found.Statement.{statement}

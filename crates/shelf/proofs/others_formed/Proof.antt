@@ -2,8 +2,7 @@
 -- Assumes nothing.
 use native.Mathlib.Omega.{arith}
 use Rattle.paper.specs.Procedure.{BOOKS}
-use Rattle.paper.proofs.Tests.{among}
-use Rattle.form.proofs.Laws.{known}
+use Rattle.paper.proofs.Tests.{among, known}
 use Rattle.shelf.specs.Steps.{othersForm}
 use borrow.Author.Needs.{needs}
 use Rattle.shelf.proofs.others_formed.Statement.{statement}

@@ -3,8 +3,7 @@
 use native.Mathlib.Omega.{arith}
 use borrow.Author.Tests.{eq-eqb, ne-eqb}
 use Rattle.paper.specs.Procedure.{BOOKS}
-use Rattle.paper.proofs.Tests.{among}
-use Rattle.form.proofs.Laws.{known}
+use Rattle.paper.proofs.Tests.{among, known}
 use Rattle.shelf.specs.Steps.{pickedOf}
 use borrow.Author.Needs.{needs}
 use Rattle.shelf.proofs.picked.Statement.{statement}

@@ -1,7 +1,7 @@
 -- `shelf::turned_away`: REGISTER, then PLACE, then what the book met.
 -- Assumes nothing.
 use borrow.Author.Tests.{eq-eqb, ne-eqb}
-use Rattle.form.proofs.Laws.{known}
+use Rattle.paper.proofs.Tests.{known}
 use Rattle.shelf.specs.Steps.{turnedAway}
 use borrow.Author.Needs.{needs}
 use Rattle.shelf.proofs.turned_away.Statement.{statement}

@@ -3,7 +3,7 @@
 use native.Mathlib.Omega.{arith}
 use borrow.Author.Needs.{needs}
 use lib.ListN.{length-set}
-use Rattle.words.proofs.Paste.{three-pasted}
+use Rattle.rows.proofs.Paste.{three-pasted}
 use Rattle.spots.proofs.clear.Statement.{statement}
 use Rattle.spots.proofs.clear.Tie as tie
 

@@ -4,7 +4,7 @@ use Rattle.paper.specs.Units.{Place}
 use native.Mathlib.Omega.{arith}
 use mathlib.Core.Path.{_∙_}
 use borrow.Author.Tests.{eq-eqb, ne-eqb}
-use Rattle.form.proofs.Laws.{known}
+use Rattle.paper.proofs.Tests.{known}
 use Rattle.image.proofs.Places.{place-out, place-in}
 use Rattle.book.specs.Steps.{aimOf}
 use borrow.Author.Needs.{needs}

@@ -3,7 +3,7 @@
 use native.Mathlib.Omega.{arith}
 use mathlib.Core.Path.{ap, _∙_}
 use Prim.Native.Nat.{_<_}
-use Rattle.form.proofs.Laws.{known}
+use Rattle.paper.proofs.Tests.{known}
 use Rattle.book.specs.declared.Book.{Book}
 use Rattle.book.specs.Steps.{step}
 use Rattle.book.proofs.Meaning.{Sized}

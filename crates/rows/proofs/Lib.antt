@@ -1,0 +1,4 @@
+pub mod Elements
+pub mod Paste
+pub mod Blocks
+pub mod Sizes
