@@ -13,11 +13,11 @@ use Rattle.paper.specs.Units.{Place, inSheet, number, Places}
 use Rattle.paper.specs.Books.{nothing, Register, closed}
 use Rattle.paper.specs.Calls.{read, Call, fresh, ask}
 use Rattle.paper.specs.Answers.{after}
-use Rattle.paper.specs.History.{leaves, Story, history}
-use Rattle.paper.specs.Claim.{begun}
+use Rattle.claims.specs.History.{leaves, Story, history}
+use Rattle.claims.specs.Claim.{begun}
 use Rattle.paper.proofs.Stays.{fresh-formed}
-use Rattle.paper.proofs.History.{from-fresh, from-form}
-use Rattle.paper.proofs.Words.{Bare, bare}
+use Rattle.claims.proofs.History.{from-fresh, from-form}
+use Rattle.claims.proofs.Words.{Bare, bare}
 use Rattle.lent.specs.Image.{LENGTH, stateOf}
 use Rattle.lent.specs.Calls.{shut, callOn, called}
 use Rattle.rows.proofs.Sizes.{Bytes}

@@ -18,12 +18,12 @@ use Rattle.paper.specs.Refusals.{EMPTY, SUSPECT}
 use Rattle.paper.specs.TurnedAway.{empty, lowest, refusal, evaluating, onList, has, passing, questioned}
 use Rattle.paper.specs.Answers.{lengths, numbersIn, Answer, nowhere, suspectIn, countOf, given, beside, says, after, run}
 use Rattle.paper.specs.Form.{formedO, InForm}
-use Rattle.paper.specs.History.{leaves, Story, told, history, asksOf, names, about}
-use Rattle.paper.specs.Claim.{Holds}
+use Rattle.claims.specs.History.{leaves, Story, told, history, asksOf, names, about}
+use Rattle.claims.specs.Claim.{Holds}
 use Rattle.paper.proofs.Form.{partsO}
 use Rattle.paper.proofs.Acts.{unless-refused}
 use Rattle.paper.proofs.Stays.{formed-after, formed-run}
-use Rattle.paper.proofs.PassList.{Rises, on-the-list, list-rises}
+use Rattle.claims.proofs.PassList.{Rises, on-the-list, list-rises}
 use Rattle.lent.specs.Image.{LENGTH, image, inForm, stateOf}
 use Rattle.lent.specs.Calls.{Out, out, callOn, called}
 use Rattle.lent.proofs.Image.{form-length, image-state, state-out}

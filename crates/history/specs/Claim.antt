@@ -14,8 +14,8 @@ use Rattle.paper.specs.Refusals.{EMPTY}
 use Rattle.paper.specs.TurnedAway.{onList}
 use Rattle.paper.specs.Answers.{lengths, Answer, nowhere, says}
 use Rattle.paper.specs.Form.{InForm}
-use Rattle.paper.specs.History.{leaves, Story, history, about}
-use Rattle.paper.specs.Claim.{foretold}
+use Rattle.claims.specs.History.{leaves, Story, history, about}
+use Rattle.claims.specs.Claim.{foretold}
 use Rattle.lent.specs.Image.{image, stateOf}
 use Rattle.lent.specs.Calls.{called}
 use Rattle.history.specs.Runs.{answerOn, ran, seenIn, listedIn, Only}

@@ -13,7 +13,7 @@ use Rattle.paper.specs.Books.{Register, Sight, sights}
 use Rattle.paper.specs.Calls.{passList, Call, ask}
 use Rattle.paper.specs.TurnedAway.{has}
 use Rattle.paper.specs.Answers.{numbersIn, Answer}
-use Rattle.paper.specs.History.{names}
+use Rattle.claims.specs.History.{names}
 use Rattle.lent.specs.Image.{stateOf}
 use Rattle.lent.specs.Calls.{called}
 

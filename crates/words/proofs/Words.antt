@@ -7,7 +7,7 @@ use native.Mathlib.Numerals.{add-one, unary-clauses}
 use native.Mathlib.Omega.{arith}
 use native.Mathlib.Nat.{mul-zero, add-zero, suc-add, zero-add, mul-assoc, pow-succ', div-one, div-div-eq-div-mul}
 use lib.ListN.{set, length, take, drop, getD, length-drop}
-use lib.Seq.{set-at, append-snoc, drop-cons, drop-drop, length-take-le, getD-drop, take-at, take-suc}
+use lib.Seq.{set-at, append-snoc, drop-cons, drop-drop, length-take-le, take-at, take-suc}
 use Rattle.rows.specs.Blocks.{blocks, laid}
 use Rattle.words.specs.Words.{le, fourAt, digits, wordIn, words, bytesOf}
 use Rattle.rows.specs.Paste.{pasted}
