@@ -29,7 +29,8 @@ extern "C" {
 #define RTK_LENGTH 29696
 #define RTK_BOOKS 16
 
-/* Where several refusals apply the lowest number is given. */
+/* Where several refusals apply to a call on a register the lowest number is given; a file meets
+ * RTK_FORM, RTK_TERMS, RTK_FAR, RTK_SHORT, RTK_SUSPECT in that order. */
 enum {
     RTK_ACCEPTED = 0,
     RTK_REGISTER = 1, /* wrong length, or not in form */
@@ -110,8 +111,10 @@ uint64_t rtk_check(const uint8_t *register_, size_t length);
 /* Closes every book, whatever the bytes held before; meets only a wrong length. */
 uint64_t rtk_fresh(uint8_t *register_, size_t length);
 
-/* Opens a closed book with D*, h*, the screening's s, the stated sigmas and the approximate
- * values of points 1 and 2. */
+/* Opens a closed book with its terms: the nominal distance D* (1 to 500,000) and height
+ * difference h* (-500,000 to 500,000), the screening's s and the stated sigmas (1 to 10,000),
+ * and the approximate values of points 1 and 2 (-100,000,000,000 to 100,000,000,000, on each
+ * axis at most 500,000 apart). */
 uint64_t rtk_open(uint8_t *register_, size_t length, uint64_t book, int64_t d, int64_t h,
                   int64_t s_xy, int64_t s_h, int64_t sigma_xy, int64_t sigma_h, int64_t x1,
                   int64_t y1, int64_t h1, int64_t x2, int64_t y2, int64_t h2);

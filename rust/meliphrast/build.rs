@@ -20,7 +20,7 @@ fn main() {
     let system = built_for("OS");
     assert_eq!(system, "linux", "the proved library is code for Linux");
     let folder = match env::var_os(FOLDER_VARIABLE) {
-        Some(folder) => PathBuf::from(folder),
+        Some(folder) => found(Path::new(&folder)),
         None => made_here(),
     };
     let archive = folder.join(format!("lib{LIBRARY}.a"));
@@ -39,6 +39,14 @@ fn main() {
 /// What cargo says of the machine that it builds for.
 fn built_for(what: &str) -> String {
     env::var(format!("CARGO_CFG_TARGET_{what}")).expect("cargo says what it builds for")
+}
+
+/// The folder that was named, as it is to be called from another one.
+fn found(folder: &Path) -> PathBuf {
+    match folder.canonicalize() {
+        Ok(folder) => folder,
+        Err(error) => panic!("{FOLDER_VARIABLE}: {}: {error}", folder.display()),
+    }
 }
 
 /// The folder of the repository's own archive, which is then in step with its sources.

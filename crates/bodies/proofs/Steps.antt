@@ -10,6 +10,7 @@ use Rattle.rows.specs.Blocks.{laid}
 use Rattle.rows.specs.Paste.{pasted}
 use Rattle.rows.proofs.Blocks.{laid-append}
 use Rattle.rows.proofs.Paste.{pasted-nil, pasted-then}
+use Rattle.paper.specs.Procedure.{IN-SERIES}
 use Rattle.paper.specs.Units.{Spot, Places}
 use Rattle.image.specs.Layout.{CELL-WORDS}
 use Rattle.image.specs.Places.{spotWords, cellsOf}
@@ -19,7 +20,7 @@ use Rattle.decimals.specs.Given.{Got, Gives, Laid}
 use Rattle.decimals.specs.declared.Read.the-variants.{At}
 use Rattle.decimals.proofs.Steps.{then-got, then-bad, yes-at, on, done}
 use Rattle.lines.proofs.Steps.{ahead-none, ahead-on, ahead-bad, ahead-end}
-use Rattle.fieldfile.specs.Reader.{IN-SERIES, spot, spots, series, bodies}
+use Rattle.fieldfile.specs.Reader.{spot, spots, series, bodies}
 use Rattle.fieldfile.proofs.Exact.{spots-only}
 use Rattle.spots.specs.Given.{Placed}
 

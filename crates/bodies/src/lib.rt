@@ -2,19 +2,17 @@
 ghost use mathlib.Core.Path.{_≡_};
 ghost use Prim.Native.Nat.{_+_, _*_, _≤_};
 ghost use lib.ListN.{length, drop};
+ghost use Rattle.paper.specs.Procedure.{IN-SERIES};
 ghost use Rattle.image.specs.Layout.{CELL-WORDS};
 ghost use Rattle.image.specs.Places.{cellsOf};
 ghost use Rattle.decimals.specs.Given.{Gives, Laid};
-ghost use Rattle.fieldfile.specs.Reader.{IN-SERIES, series, bodies};
+ghost use Rattle.fieldfile.specs.Reader.{series, bodies};
 use decimals::Read;
 use image::Layout;
 use procedure::Procedure;
 
-// The places of a series.
-const IN_SERIES: usize = Procedure::SETS * Procedure::POINTS;
-
 // Where the cells of the second and of the third series begin.
-const SECOND: usize = Layout::READING * IN_SERIES;
+const SECOND: usize = Layout::READING * Procedure::IN_SERIES;
 
 const THIRD: usize = 2 * SECOND;
 
@@ -26,7 +24,7 @@ fn series_at(s: &[u8], at: usize, count: u64, cells: &mut [u64], base: usize) ->
     let mut i = at;
     let mut left = count;
     let mut k = 0;
-    while k < IN_SERIES {
+    while k < Procedure::IN_SERIES {
         let Read::At(m, n) = spots::spot_at(s, i, k, left, cells, base + Layout::READING * k) else {
             return Read::Bad;
         };

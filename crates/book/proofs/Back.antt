@@ -29,7 +29,7 @@ use Rattle.book.proofs.Steps.{step-refused, step-done, cell-words, kept
 -- of a closed book there is nothing to take back
 pub back-closed : (b : Book) → Sized b → bookForm b ≡ true → b .opened ≡ 0 → step CLOSED b ≡ stepOf takeBack b
 unfolding rules lowest
-back-closed b s e z = step-refused b takeBack 4 s e (rw (meant-closed b z))
+back-closed b s e z = step-refused b takeBack _ s e (rw (meant-closed b z))
 
 module _ (b : Book) (s : Sized b) (e : bookForm b ≡ true) (f : b .opened ≡ 0 → ⊥) where
   sound-b : Sound b
@@ -51,7 +51,7 @@ module _ (b : Book) (s : Sized b) (e : bookForm b ≡ true) (f : b .opened ≡ 0
 
   pub step-nothing : b .kept ≡ 0 → step NOTHING b ≡ stepOf takeBack b
   unfolding lowest rules nothingKept paper.sight
-  step-nothing z = step-refused b takeBack 8 s e (rw (meant-open b f, kept-count b s sound-b, z))
+  step-nothing z = step-refused b takeBack _ s e (rw (meant-open b f, kept-count b s sound-b, z))
 
   rest-words : 0 < b .kept → changesOf (KEPT - 1) older ≡ drop 4 (b .changes)
   unfolding older

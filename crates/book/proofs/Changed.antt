@@ -84,7 +84,7 @@ module _ (b : Book) (s : Sized b) (p : Place) (q : ℕ) (o : On b p q) where
 
       go : (n : Bool) → near (termsOf (b .terms)) (pointOf q) (triple (wordOr x) (wordOr y) (wordOr h)) ≡ n
           → cond n (step 0 (changedOf b q (wordOr x ∷ wordOr y ∷ wordOr h ∷ []))) (step FAR b) ≡ stepOf a b
-      go false e = step-refused b a 7 s (o .form) (r ∙ rw (far-is x y h, e))
+      go false e = step-refused b a _ s (o .form) (r ∙ rw (far-is x y h, e))
       go true e =
           let close : near (termsOf (b .terms)) (pointOf q) v ≡ true = sym (near-words (termsOf (b .terms)) (pointOf q) x y h in-range) ∙ e in
           let w = words-of x y h (near-short (termsOf (b .terms)) (pointOf q) v in-range close) in
@@ -131,7 +131,7 @@ module _ (b : Book) (s : Sized b) (p : Place) where
       → (r : Step) → r ≡ placedOf b a (wordOr x′) (wordOr y′) (wordOr h′) → r ≡ stepOf (enter p (record { x = x; y = y; h = h })) b
   unfolding rules effect
   entered a x y h x′ y′ h′ u ex ey eh =
-      placed-step b p 0 FILLED s (enter p (record { x = x; y = y; h = h })) 5 (not (empty p (sightO b))) _ refl (turned (empty p (sightO b))) a x y h x′ y′ h′ u ex ey eh refl refl
+      placed-step b p 0 FILLED s (enter p (record { x = x; y = y; h = h })) _ (not (empty p (sightO b))) _ refl (turned (empty p (sightO b))) a x y h x′ y′ h′ u ex ey eh refl refl
     where
       turned : (i : Bool) → _≡_ {A = ℕ} (cond i 0 FILLED) (cond (not i) FILLED 0)
       turned true = refl
@@ -141,15 +141,15 @@ module _ (b : Book) (s : Sized b) (p : Place) where
       → (r : Step) → r ≡ placedOf b a (wordOr x′) (wordOr y′) (wordOr h′) → r ≡ stepOf (correct p (record { x = x; y = y; h = h })) b
   unfolding rules effect
   corrected a x y h x′ y′ h′ u ex ey eh =
-      placed-step b p EMPTY 0 s (correct p (record { x = x; y = y; h = h })) 6 (empty p (sightO b)) _ refl refl a x y h x′ y′ h′ u ex ey eh refl refl
+      placed-step b p EMPTY 0 s (correct p (record { x = x; y = y; h = h })) _ (empty p (sightO b)) _ refl refl a x y h x′ y′ h′ u ex ey eh refl refl
 
   pub withdraw-refused : (a : Aim) → a ≡ soughtOf b p EMPTY 0 → (a .refusal ≡ 0 → ⊥) → step (a .refusal) b ≡ stepOf (withdraw p) b
   unfolding rules
-  withdraw-refused = sought-refused b p EMPTY 0 s (withdraw p) 6 (empty p (sightO b)) [] refl refl
+  withdraw-refused = sought-refused b p EMPTY 0 s (withdraw p) _ (empty p (sightO b)) [] refl refl
 
   pub withdrawn : (a : Aim) → a ≡ soughtOf b p EMPTY 0 → a .refusal ≡ 0 → step 0 (changedOf b (a .place) (0 ∷ 0 ∷ 0 ∷ [])) ≡ stepOf (withdraw p) b
   unfolding rules effect lowest spotWords
   withdrawn a u z =
       let o = sought-on b p EMPTY 0 a u z in
       step-done b (withdraw p) (changedOf b (a .place) (0 ∷ 0 ∷ 0 ∷ [])) (o .0 .form)
-      (sought-rest b p EMPTY 0 s (withdraw p) 6 (empty p (sightO b)) [] refl refl (a .place) (o .0) (o .1)) (change-is b s p (a .place) (o .0) none)
+      (sought-rest b p EMPTY 0 s (withdraw p) _ (empty p (sightO b)) [] refl refl (a .place) (o .0) (o .1)) (change-is b s p (a .place) (o .0) none)

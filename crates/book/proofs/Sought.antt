@@ -60,8 +60,8 @@ module _ (b : Book) (p : Place) where
           → n ≡ cond i (cond j (cond k (aim CLOSED 0) (aim 0 (number p))) (aim PLACE 0)) (aim REGISTER 0) .refusal
           → step n b ≡ stepOf a b
       go false j k u v w e = rw e (step-unformed b a u)
-      go true false k u v w e = rw e (step-refused b a 1 s u (rw (r, v)))
-      go true true true u v w e = rw e (step-refused b a 4 s u (rw (r, v, meant-closed b (eqb-true (b .opened) 0 w))))
+      go true false k u v w e = rw e (step-refused b a _ s u (rw (r, v)))
+      go true true true u v w e = rw e (step-refused b a _ s u (rw (r, v, meant-closed b (eqb-true (b .opened) 0 w))))
       go true true false u v w e = absurd (f e)
 
 module _ (b : Book) (s : Sized b) (p : Place) (q : ℕ) (o : On b p q) where

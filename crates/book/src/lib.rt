@@ -23,7 +23,7 @@ pub struct Book {
     pub changes: [u64; Layout::CHANGES],
 }
 
-// The next book beside a refusal number; beside a refusal the book is the one handed in.
+// The next book beside a refusal number; beside the refusal of an act the book is the one handed in.
 pub struct Step {
     pub refusal: u64,
     pub book: Book,

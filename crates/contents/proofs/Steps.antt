@@ -11,7 +11,7 @@ use lib.IntN.{ℤ}
 use lib.Dec.{eqb}
 use borrow.Author.Tests.{eqb-true, eqb-false}
 use Rattle.rows.specs.Paste.{pasted}
-use Rattle.paper.specs.Units.{Terms, Places}
+use Rattle.paper.specs.Units.{Terms, termsFrom, Places}
 use Rattle.image.specs.Layout.{TERM-WORDS, CELL-WORDS}
 use Rattle.image.specs.Lengths.{word, termWords}
 use Rattle.image.specs.Places.{cellsOf}
@@ -21,7 +21,7 @@ use Rattle.decimals.specs.Given.{Got, Laid}
 use Rattle.decimals.proofs.Steps.{then-got, then-bad}
 use Rattle.decimals.proofs.Exact.{numbers-only}
 use Rattle.fieldfile.specs.Form.{LONGEST}
-use Rattle.fieldfile.specs.Reader.{bodies, table, termsFrom, ends, whole, readOf}
+use Rattle.fieldfile.specs.Reader.{bodies, table, ends, whole, readOf}
 use Rattle.fieldfile.proofs.Lists.{terms-from}
 use Rattle.fieldfile.proofs.Exact.{whole-only}
 use Rattle.fieldfile.proofs.Agreement.{read-got}

@@ -1,4 +1,3 @@
 pub mod Steps
 pub mod Exact
 pub mod Long
-pub mod Tables

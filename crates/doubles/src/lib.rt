@@ -42,7 +42,7 @@ pub fn verdict(j: Judged) -> Verdict
 }
 
 // A verdict at the boundary.
-pub fn mark_of(v: Verdict) -> Mark
+fn mark_of(v: Verdict) -> Mark
     ensures { λ r. ⌜ r ≡ markOf v ⌝ }
 {
     match v {

@@ -7,7 +7,7 @@ use mathlib.Core.Option.{Option, none, some}
 use mathlib.Core.List.{List}
 use Rattle.paper.specs.Units.{Terms, Places, isEmpty}
 use Rattle.paper.specs.Screening.{Suspect, firstSuspect}
-use Rattle.paper.specs.Verdicts.{evaluation, bothWithin}
+use Rattle.paper.specs.Verdicts.{judgedXY, judgedH, evaluation, bothWithin}
 use Rattle.paper.specs.Refusals.{SHORT, SUSPECT}
 use Rattle.paper.specs.TurnedAway.{some?, short, suspectOf, lowest, evaluating, questioned, evaluated, onList}
 use Rattle.paper.specs.Answers.{suspectIn, given, beside, says}
@@ -60,6 +60,6 @@ module _ (t l : List ℕ) where
   suspect-off e i j k h = rw (e, some-is (firstSuspect (termsOf t) (placesOf l)) i j k h)
 
   pub clear-on : some? isEmpty (placesOf l) ≡ false → Nowhere ≡ foundOf (firstSuspect (termsOf t) (placesOf l))
-      → bothWithin (evaluation (termsOf t) (placesOf l)) ≡ onList (some (sightOf t l))
-  unfolding onList lowest evaluating short suspectOf evaluated
+      → bothWithin (judgedXY (termsOf t) (placesOf l)) (judgedH (termsOf t) (placesOf l)) ≡ onList (some (sightOf t l))
+  unfolding onList lowest evaluating short suspectOf evaluated evaluation
   clear-on e h = rw (e, none-is (firstSuspect (termsOf t) (placesOf l)) h)

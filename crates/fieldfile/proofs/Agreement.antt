@@ -12,6 +12,7 @@ use lib.ListN.{length, getD, length-append}
 use lib.IntN.{pos}
 use Rattle.rows.specs.Lists.{All}
 use Rattle.rows.proofs.Elements.{all-each}
+use Rattle.paper.specs.Procedure.{IN-SERIES}
 use Rattle.paper.specs.Units.{Terms, termList, Spot, Places}
 use Rattle.image.specs.Lengths.{termsOf, termWords}
 use Rattle.image.specs.Places.{placesOf, cellsOf}
@@ -80,7 +81,7 @@ text-one t t′ l l′ v w e =
 
 -- ---- how long it is
 
-long-body : (k : ℕ) (l : Places) → k + length l ≤ 10 → ShortSpots l → length (body k l) ≤ 46 * length l
+long-body : (k : ℕ) (l : Places) → k + length l ≤ IN-SERIES → ShortSpots l → length (body k l) ≤ 46 * length l
 unfolding body entry All
 long-body k [] h s = omega arith
 long-body k (none ∷ l) h s = omega (arith, long-body (suc k) l (omega arith) (s .1))
@@ -90,7 +91,7 @@ long-body k (some v ∷ l) h s =
     let c = long-line (v .x ∷ v .y ∷ v .h ∷ []) (s .0) in
     rw (entry-tag k v (omega arith), length-append) (omega (arith, a, b, c))
 
-long-count : (n : ℕ) → n ≤ 10 → length (line (pos n ∷ [])) ≤ 3
+long-count : (n : ℕ) → n ≤ IN-SERIES → length (line (pos n ∷ [])) ≤ 3
 unfolding line numeral
 long-count n h = rw length-append (omega (arith, long-most 1 n (omega arith)))
 
@@ -100,10 +101,10 @@ unfolding ascii termList
 text-fits t l v =
     rw (text-nested t l) (go (ofSeries 1 l) (ofSeries 2 l) (ofSeries 3 l) (ten 1 (omega arith) (omega arith)) (ten 2 (omega arith) (omega arith)) (ten 3 (omega arith) (omega arith)) (all-series l (v .thirty)))
   where
-    ten : (i : ℕ) → 1 ≤ i → i ≤ 3 → length (ofSeries i l) ≡ 10
+    ten : (i : ℕ) → 1 ≤ i → i ≤ 3 → length (ofSeries i l) ≡ IN-SERIES
     ten = length-series l (v .thirty)
 
-    go : (xs ys zs : Places) → length xs ≡ 10 → length ys ≡ 10 → length zs ≡ 10 → l ≡ xs ++ (ys ++ zs) → length (nested t xs ys zs) ≤ 1600
+    go : (xs ys zs : Places) → length xs ≡ IN-SERIES → length ys ≡ IN-SERIES → length zs ≡ IN-SERIES → l ≡ xs ++ (ys ++ zs) → length (nested t xs ys zs) ≤ 1600
     go xs ys zs p q s e =
         let h = short-split3 xs ys zs (rw e at (v .places)) in
         simp length-append

@@ -12,19 +12,20 @@ use lib.Dec.{leb, eqb}
 use lib.ListN.{length, length-append}
 use lib.IntN.{ℤ, pos, negsuc}
 use Rattle.rows.specs.Lists.{All}
-use Rattle.paper.specs.Units.{Triple, Terms, termList, Spot, Places}
+use Rattle.paper.specs.Procedure.{IN-SERIES}
+use Rattle.paper.specs.Units.{Triple, Terms, termsFrom, termList, Spot, Places}
 use Rattle.paper.proofs.Tests.{terms-order}
 use Rattle.decimals.specs.Numbers.{numeral, AllShort, sepOf, line}
 use Rattle.decimals.specs.Reader.{Parsed, got, bad, fixed, field, ahead, numbers}
 use Rattle.decimals.proofs.Steps.{then-got}
 use Rattle.decimals.proofs.Exact.{no, then-only, ahead-only, fixed-only, fixed-back, field-only, field-back, numbers-only, numbers-back, digits-one}
 use Rattle.fieldfile.specs.Form.{CONTENTS, TERMS, SERIES1, SERIES2, SERIES3, ofSeries, entry, body, filled, lines, text, ShortSpot, ShortSpots, Printable}
-use Rattle.fieldfile.specs.Reader.{tag, tripleFrom, placed, spot, spots, series, bodies, upTo10, count, table, termsFrom, ends, whole}
+use Rattle.fieldfile.specs.Reader.{tag, tripleFrom, placed, spot, spots, series, bodies, lineCount, count, table, ends, whole}
 use Rattle.fieldfile.proofs.Lists.{triple-from, terms-from, length-series, all-series, first-series, second-series, third-series, short-split3, short-join3, lines-most}
 
 -- ---- a place
 
-pub entry-tag : (k : ℕ) (v : Triple) → k < 10 → entry k (some v) ≡ tag k ++ line (v .x ∷ v .y ∷ v .h ∷ [])
+pub entry-tag : (k : ℕ) (v : Triple) → k < IN-SERIES → entry k (some v) ≡ tag k ++ line (v .x ∷ v .y ∷ v .h ∷ [])
 unfolding entry line numeral sepOf
 entry-tag k v h =
     let a : 48 + (k / 2 + 1) ≡ 49 + k / 2 = omega arith in
@@ -40,7 +41,7 @@ differ j k r p = go (eqb (49 + k / 2) (49 + j / 2)) refl
     go true e = let f = eqb-true (49 + k / 2) (49 + j / 2) e in rw (e, ne-eqb (49 + k % 2) (49 + j % 2) (λ g. omega arith))
 
 -- no later line starts with the tag of an earlier place
-later : (j k : ℕ) (zs : Places) (r : List ℕ) → j < k → k + length zs ≤ 10 → 0 < lines zs → fixed (tag j) (body k zs ++ r) ≡ bad
+later : (j k : ℕ) (zs : Places) (r : List ℕ) → j < k → k + length zs ≤ IN-SERIES → 0 < lines zs → fixed (tag j) (body k zs ++ r) ≡ bad
 unfolding lines body entry
 later j k [] r p h q = absurd (omega arith)
 later j k (none ∷ zs) r p h q = later j (suc k) zs r (omega arith) (omega arith) (omega arith)
@@ -58,7 +59,7 @@ spot-present k m v l h =
     let f : 1 + m ≡ suc m = omega arith in
     rw (f, fixed-back (tag k) (line (v .x ∷ v .y ∷ v .h ∷ []) ++ l)) (then-got _ (numbers-back (v .x ∷ v .y ∷ v .h ∷ []) l h))
 
-spots-back : (k : ℕ) (zs : Places) (r : List ℕ) → k + length zs ≤ 10 → ShortSpots zs → spots (length zs) k (lines zs) (body k zs ++ r) ≡ got zs r
+spots-back : (k : ℕ) (zs : Places) (r : List ℕ) → k + length zs ≤ IN-SERIES → ShortSpots zs → spots (length zs) k (lines zs) (body k zs ++ r) ≡ got zs r
 unfolding spots lines body entry All ahead
 spots-back k [] r h s = refl
 spots-back k (none ∷ zs) r h s =
@@ -72,7 +73,7 @@ spots-back k (some v ∷ zs) r h s =
 abbrev Was : (k left : ℕ) (l : List ℕ) (v : Spot) (m : ℕ) (r : List ℕ) → Type 0
 Was k left l v m r = (l ≡ entry k v ++ r) × ShortSpot v × (left ≡ filled v + m)
 
-spot-only : (k left : ℕ) (l : List ℕ) (v : Spot) (m : ℕ) (r : List ℕ) → k < 10 → spot k left l ≡ got (v, m) r → Was k left l v m r
+spot-only : (k left : ℕ) (l : List ℕ) (v : Spot) (m : ℕ) (r : List ℕ) → k < IN-SERIES → spot k left l ≡ got (v, m) r → Was k left l v m r
 unfolding spot placed entry
 spot-only k left l v m r h = start left
   where
@@ -103,7 +104,7 @@ spot-only k left l v m r h = start left
             let n = numbers-only 3 t (i .2) in
             present left (i .0) t (i .1) (fixed-only (tag k) l p) (n .0) (n .1) (n .2) (i .3)
 
-pub spots-only : (n k m : ℕ) (l : List ℕ) {zs : Places} {r : List ℕ} → k + n ≤ 10 → spots n k m l ≡ got zs r
+pub spots-only : (n k m : ℕ) (l : List ℕ) {zs : Places} {r : List ℕ} → k + n ≤ IN-SERIES → spots n k m l ≡ got zs r
     → (l ≡ body k zs ++ r) × (length zs ≡ n) × ShortSpots zs × (m ≡ lines zs)
 unfolding spots lines body All
 spots-only zero k zero l {zs} {r} h e = let f : [] ≡ zs = cc in let g : l ≡ r = cc in rw (← f) (g, refl, tt, refl)
@@ -120,13 +121,13 @@ spots-only (suc n) k m l {zs} {r} h e =
 
 -- ---- the table of contents
 
-count-back : (name : List ℕ) (n : ℕ) (r : List ℕ) → n ≤ 10 → count name (name ++ (line (pos n ∷ []) ++ r)) ≡ got n r
-unfolding count line sepOf upTo10
+count-back : (name : List ℕ) (n : ℕ) (r : List ℕ) → n ≤ IN-SERIES → count name (name ++ (line (pos n ∷ []) ++ r)) ≡ got n r
+unfolding count line sepOf lineCount
 count-back name n r h =
-    then-got _ (fixed-back name (line (pos n ∷ []) ++ r)) ∙ (rw append-assoc (then-got _ (field-back 10 (pos n) r (omega arith) (omega arith)) ∙ rw (le-leb n 10 h)))
+    then-got _ (fixed-back name (line (pos n ∷ []) ++ r)) ∙ (rw append-assoc (then-got _ (field-back 10 (pos n) r (omega arith) (omega arith)) ∙ rw (le-leb n IN-SERIES h)))
 
 count-only : (name l : List ℕ) {n : ℕ} {r : List ℕ} → count name l ≡ got n r → l ≡ name ++ (line (pos n ∷ []) ++ r)
-unfolding count line sepOf upTo10
+unfolding count line sepOf lineCount
 count-only name l {n} {r} e =
     let i = then-only (fixed name l) _ e in
     let j = then-only (field 10 (i .1)) _ (i .3) in
@@ -136,8 +137,8 @@ count-only name l {n} {r} e =
     is k l t f true e = let g : k ≡ n = cc in let h : t ≡ r = cc in rw (append-assoc, ← g, ← h) f
     is k l t f false e = no e
 
-    go : {l : List ℕ} (z : ℤ) (t : List ℕ) → l ≡ numeral z ++ 10 ∷ t → upTo10 z t ≡ got n r → l ≡ numeral (pos n) ++ 10 ∷ [] ++ r
-    go {l} (pos k) t f e = is k l t f (leb k 10) e
+    go : {l : List ℕ} (z : ℤ) (t : List ℕ) → l ≡ numeral z ++ 10 ∷ t → lineCount z t ≡ got n r → l ≡ numeral (pos n) ++ 10 ∷ [] ++ r
+    go {l} (pos k) t f e = is k l t f (leb k IN-SERIES) e
     go (negsuc k) t f e = no e
 
 -- the table with its three counts, and what follows it
@@ -145,7 +146,7 @@ abbrev headed : (a b c : ℕ) → List ℕ → List ℕ
 headed a b c r =
     CONTENTS ++ (TERMS ++ (SERIES1 ++ (line (pos a ∷ []) ++ (SERIES2 ++ (line (pos b ∷ []) ++ (SERIES3 ++ (line (pos c ∷ []) ++ r)))))))
 
-table-back : (a b c : ℕ) (r : List ℕ) → a ≤ 10 → b ≤ 10 → c ≤ 10 → table (headed a b c r) ≡ got (a, b, c) r
+table-back : (a b c : ℕ) (r : List ℕ) → a ≤ IN-SERIES → b ≤ IN-SERIES → c ≤ IN-SERIES → table (headed a b c r) ≡ got (a, b, c) r
 unfolding table
 table-back a b c r p q s =
     then-got _ (fixed-back CONTENTS _) ∙ (then-got _ (fixed-back TERMS _)
@@ -172,12 +173,12 @@ table-only l n r e =
 
 -- ---- the bodies
 
-bodies-back : (xs ys zs : Places) (r : List ℕ) → length xs ≡ 10 → length ys ≡ 10 → length zs ≡ 10 → ShortSpots xs → ShortSpots ys → ShortSpots zs
+bodies-back : (xs ys zs : Places) (r : List ℕ) → length xs ≡ IN-SERIES → length ys ≡ IN-SERIES → length zs ≡ IN-SERIES → ShortSpots xs → ShortSpots ys → ShortSpots zs
     → bodies (lines xs) (lines ys) (lines zs) (body 0 xs ++ (body 0 ys ++ (body 0 zs ++ r))) ≡ got (xs ++ (ys ++ zs)) r
 unfolding bodies
 bodies-back xs ys zs r p q s u v w = then-got _ (one xs _ p u) ∙ (then-got _ (one ys _ q v) ∙ then-got _ (one zs r s w))
   where
-    one : (xs : Places) (r : List ℕ) → length xs ≡ 10 → ShortSpots xs → series (lines xs) (body 0 xs ++ r) ≡ got xs r
+    one : (xs : Places) (r : List ℕ) → length xs ≡ IN-SERIES → ShortSpots xs → series (lines xs) (body 0 xs ++ r) ≡ got xs r
     one xs r n s = ap (λ (m : ℕ). spots m 0 (lines xs) (body 0 xs ++ r)) (sym n) ∙ spots-back 0 xs r (omega arith) s
 
 -- what was read of three bodies
@@ -187,9 +188,9 @@ record Bodies (a b c : ℕ) (l : List ℕ) (ps : Places) (r : List ℕ) : Type 0
   zs : Places
   all : ps ≡ xs ++ (ys ++ zs)
   is : l ≡ body 0 xs ++ (body 0 ys ++ (body 0 zs ++ r))
-  ten1 : length xs ≡ 10
-  ten2 : length ys ≡ 10
-  ten3 : length zs ≡ 10
+  ten1 : length xs ≡ IN-SERIES
+  ten2 : length ys ≡ IN-SERIES
+  ten3 : length zs ≡ IN-SERIES
   short1 : ShortSpots xs
   short2 : ShortSpots ys
   short3 : ShortSpots zs
@@ -203,9 +204,9 @@ bodies-only a b c l ps r e =
     let i = then-only (series a l) _ e in
     let j = then-only (series b (i .1)) _ (i .3) in
     let k = then-only (series c (j .1)) _ (j .3) in
-    let x = spots-only 10 0 a l (omega arith) (i .2) in
-    let y = spots-only 10 0 b (i .1) (omega arith) (j .2) in
-    let z = spots-only 10 0 c (j .1) (omega arith) (k .2) in
+    let x = spots-only IN-SERIES 0 a l (omega arith) (i .2) in
+    let y = spots-only IN-SERIES 0 b (i .1) (omega arith) (j .2) in
+    let z = spots-only IN-SERIES 0 c (j .1) (omega arith) (k .2) in
     record {
       xs = i .0;
       ys = j .0;
@@ -237,10 +238,10 @@ pub whole-back : (t : Terms) (l : Places) → Printable t l → whole (text t l)
 unfolding whole ends termList
 whole-back t l v = rw (text-nested t l) (go (ofSeries 1 l) (ofSeries 2 l) (ofSeries 3 l) (ten 1 (omega arith) (omega arith)) (ten 2 (omega arith) (omega arith)) (ten 3 (omega arith) (omega arith)) (all-series l (v .thirty)))
   where
-    ten : (i : ℕ) → 1 ≤ i → i ≤ 3 → length (ofSeries i l) ≡ 10
+    ten : (i : ℕ) → 1 ≤ i → i ≤ 3 → length (ofSeries i l) ≡ IN-SERIES
     ten = length-series l (v .thirty)
 
-    go : (xs ys zs : Places) → length xs ≡ 10 → length ys ≡ 10 → length zs ≡ 10 → l ≡ xs ++ (ys ++ zs) → whole (nested t xs ys zs) ≡ got (t, l) []
+    go : (xs ys zs : Places) → length xs ≡ IN-SERIES → length ys ≡ IN-SERIES → length zs ≡ IN-SERIES → l ≡ xs ++ (ys ++ zs) → whole (nested t xs ys zs) ≡ got (t, l) []
     go xs ys zs p q s e =
         let h = short-split3 xs ys zs (rw e at (v .places)) in
         then-got _ (table-back (lines xs) (lines ys) (lines zs) _ (omega (arith, lines-most xs)) (omega (arith, lines-most ys)) (omega (arith, lines-most zs)))

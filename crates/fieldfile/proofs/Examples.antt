@@ -10,8 +10,8 @@ use Rattle.paper.specs.Units.{Triple, Terms, Places, zeros}
 use Rattle.decimals.specs.Ascii.{ascii}
 use Rattle.decimals.specs.Numbers.{sepOf}
 use Rattle.decimals.specs.Reader.{then, fixed, stops, run, nonzero, number, field, ahead, numbers}
-use Rattle.decimals.proofs.Tables.{each-right}
-use Rattle.fieldfile.specs.Reader.{placed, spot, spots, bodies, upTo10, count, table, ends, whole, readOf}
+use Rattle.paper.proofs.Tables.{each-right}
+use Rattle.fieldfile.specs.Reader.{placed, spot, spots, bodies, lineCount, count, table, ends, whole, readOf}
 
 pub record Case : Type 0 where
   pub file : List ℕ
@@ -140,7 +140,7 @@ files =
 -- ---- one test, and the law that turns it into each case
 
 all-right : map (λ (c : Case). readOf (c .file)) files ≡ map (λ (c : Case). c .holds) files
-unfolding files paper-file later series paper-terms paper-places sets small-terms small-places triple ascii sepOf then fixed stops run nonzero number field ahead numbers placed spot spots bodies upTo10 count table ends whole readOf
+unfolding files paper-file later series paper-terms paper-places sets small-terms small-places triple ascii sepOf then fixed stops run nonzero number field ahead numbers placed spot spots bodies lineCount count table ends whole readOf
 all-right = refl
 
 pub case : ℕ → Case

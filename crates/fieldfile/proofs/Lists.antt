@@ -9,10 +9,10 @@ use lib.ListN.{length, take, drop, take-append-drop, length-drop}
 use lib.Seq.{take-all, length-take-le, take-at, drop-at, drop-drop}
 use Rattle.rows.proofs.Elements.{elements, elements-all, all-split, all-join}
 use lib.IntN.{ℤ, pos}
-use Rattle.paper.specs.Procedure.{PLACES}
-use Rattle.paper.specs.Units.{termList, Places, inOrder}
+use Rattle.paper.specs.Procedure.{IN-SERIES, PLACES}
+use Rattle.paper.specs.Units.{termsFrom, termList, Places, inOrder}
 use Rattle.fieldfile.specs.Form.{ofSeries, lines, ShortSpot, ShortSpots}
-use Rattle.fieldfile.specs.Reader.{tripleFrom, termsFrom}
+use Rattle.fieldfile.specs.Reader.{tripleFrom}
 
 -- ---- terms and readings from their numbers
 
@@ -27,32 +27,32 @@ triple-from zs e = elements-all 3 zs (pos 0) e
 -- ---- the places of the three series
 
 module _ (l : Places) (n : length l ≡ PLACES) where
-  pub length-series : (i : ℕ) → 1 ≤ i → i ≤ 3 → length (ofSeries i l) ≡ 10
+  pub length-series : (i : ℕ) → 1 ≤ i → i ≤ 3 → length (ofSeries i l) ≡ IN-SERIES
   unfolding ofSeries inOrder
-  length-series i p q = length-take-le 10 (drop (((i - 1) * 5 + 0) * 2 + 0) l) (rw length-drop (omega arith))
+  length-series i p q = length-take-le IN-SERIES (drop (((i - 1) * 5 + 0) * 2 + 0) l) (rw length-drop (omega arith))
 
   pub all-series : l ≡ ofSeries 1 l ++ (ofSeries 2 l ++ ofSeries 3 l)
   unfolding ofSeries inOrder
   all-series =
-      let a : take 10 (drop 20 l) ≡ drop 20 l = take-all 10 (drop 20 l) (rw length-drop (omega arith)) in
-      let b : drop 10 (drop 10 l) ≡ drop 20 l = drop-drop 10 10 l in
-      rw (a, ← b, take-append-drop 10 (drop 10 l)) (sym (take-append-drop 10 l))
+      let a : take IN-SERIES (drop (2 * IN-SERIES) l) ≡ drop (2 * IN-SERIES) l = take-all IN-SERIES (drop (2 * IN-SERIES) l) (rw length-drop (omega arith)) in
+      let b : drop IN-SERIES (drop IN-SERIES l) ≡ drop (2 * IN-SERIES) l = drop-drop IN-SERIES IN-SERIES l in
+      rw (a, ← b, take-append-drop IN-SERIES (drop IN-SERIES l)) (sym (take-append-drop IN-SERIES l))
 
 -- and of three series of ten, each is one
-module _ (xs ys zs : Places) (p : length xs ≡ 10) (q : length ys ≡ 10) (s : length zs ≡ 10) where
+module _ (xs ys zs : Places) (p : length xs ≡ IN-SERIES) (q : length ys ≡ IN-SERIES) (s : length zs ≡ IN-SERIES) where
   pub first-series : ofSeries 1 (xs ++ (ys ++ zs)) ≡ xs
   unfolding ofSeries inOrder
-  first-series = take-at xs (ys ++ zs) 10 p
+  first-series = take-at xs (ys ++ zs) IN-SERIES p
 
   pub second-series : ofSeries 2 (xs ++ (ys ++ zs)) ≡ ys
   unfolding ofSeries inOrder
-  second-series = ap (take 10) (drop-at xs (ys ++ zs) 10 p) ∙ take-at ys zs 10 q
+  second-series = ap (take IN-SERIES) (drop-at xs (ys ++ zs) IN-SERIES p) ∙ take-at ys zs IN-SERIES q
 
   pub third-series : ofSeries 3 (xs ++ (ys ++ zs)) ≡ zs
   unfolding ofSeries inOrder
   third-series =
-      let d : drop 20 (xs ++ (ys ++ zs)) ≡ zs = sym (drop-drop 10 10 (xs ++ (ys ++ zs))) ∙ (ap (drop 10) (drop-at xs (ys ++ zs) 10 p) ∙ drop-at ys zs 10 q) in
-      ap (take 10) d ∙ take-all 10 zs (omega arith)
+      let d : drop (2 * IN-SERIES) (xs ++ (ys ++ zs)) ≡ zs = sym (drop-drop IN-SERIES IN-SERIES (xs ++ (ys ++ zs))) ∙ (ap (drop IN-SERIES) (drop-at xs (ys ++ zs) IN-SERIES p) ∙ drop-at ys zs IN-SERIES q) in
+      ap (take IN-SERIES) d ∙ take-all IN-SERIES zs (omega arith)
 
 pub short-split3 : (xs ys zs : Places) → ShortSpots (xs ++ (ys ++ zs)) → ShortSpots xs × ShortSpots ys × ShortSpots zs
 short-split3 xs ys zs h =

@@ -1,12 +1,12 @@
 -- Document 01, "The field file": the text of terms and readings, and which files are of the form.
-use Prim.Native.Nat.{ℕ, suc, _+_, _*_, _/_, _≤_}
+use Prim.Native.Nat.{ℕ, suc, _+_, _/_, _≤_}
 use mathlib.Core.Path.{_≡_}
 use mathlib.Core.Option.{none, some}
 use mathlib.Core.List.{List, [], _∷_, _++_}
 use lib.ListN.{length, take, drop}
 use lib.IntN.{pos}
 use Rattle.rows.specs.Lists.{All}
-use Rattle.paper.specs.Procedure.{SETS, POINTS, PLACES}
+use Rattle.paper.specs.Procedure.{POINTS, IN-SERIES, PLACES}
 use Rattle.paper.specs.Units.{coordinates, Terms, termList, Spot, Places, inOrder, pointOf}
 use Rattle.decimals.specs.Ascii.{ascii}
 use Rattle.decimals.specs.Numbers.{AllShort, line}
@@ -36,7 +36,7 @@ SERIES3 = ascii "SERIES3 "
 
 -- the places of series i
 unfoldable pub ofSeries : ℕ → Places → Places
-ofSeries i l = take (SETS * POINTS) (drop (inOrder i 1 1) l)
+ofSeries i l = take IN-SERIES (drop (inOrder i 1 1) l)
 
 -- a series line is set, point, x, y, h: that of place k of the series, counted from 0. A missing reading is an absent line
 unfoldable pub entry : ℕ → Spot → List ℕ

@@ -1,13 +1,13 @@
 -- A reader of files. proofs/Agreement.antt shows that it takes the files of the form, each with its terms and readings, and no others.
-use Prim.Native.Nat.{ℕ, zero, suc, _+_, _*_, _/_, _%_}
+use Prim.Native.Nat.{ℕ, zero, suc, _+_, _/_, _%_}
 use mathlib.Core.Bool.{cond}
 use mathlib.Core.Option.{Option, none, some}
 use mathlib.Core.List.{List, [], _∷_, _++_}
 use lib.ListN.{length, getD}
 use lib.Dec.{leb}
 use lib.IntN.{ℤ, pos, negsuc}
-use Rattle.paper.specs.Procedure.{SETS, POINTS}
-use Rattle.paper.specs.Units.{Triple, Terms, termsBy, Spot, Places}
+use Rattle.paper.specs.Procedure.{POINTS, IN-SERIES}
+use Rattle.paper.specs.Units.{Triple, Terms, termsFrom, Spot, Places}
 use Rattle.decimals.specs.Reader.{Parsed, got, bad, then, fixed, field, ahead, numbers}
 use Rattle.fieldfile.specs.Form.{LONGEST, CONTENTS, TERMS, SERIES1, SERIES2, SERIES3}
 
@@ -36,10 +36,6 @@ spots zero k zero l = got [] l
 spots zero k (suc left) l = bad
 spots (suc n) k left l = then (spot k left l) (λ v r. ahead (v .0 ∷ []) (spots n (suc k) (v .1) r))
 
--- the places of a series
-abbrev pub IN-SERIES : ℕ
-IN-SERIES = SETS * POINTS
-
 -- a body of so many lines
 abbrev pub series : ℕ → List ℕ → Parsed Places
 series count l = spots IN-SERIES 0 count l
@@ -49,12 +45,13 @@ bodies a b c l = then (series a l) (λ xs r. then (series b r) (λ ys t. then (s
 
 -- ---- the table of contents
 
-unfoldable pub upTo10 : ℤ → List ℕ → Parsed ℕ
-upTo10 (pos n) l = cond (leb n 10) (got n l) bad
-upTo10 (negsuc n) l = bad
+-- a number of lines
+unfoldable pub lineCount : ℤ → List ℕ → Parsed ℕ
+lineCount (pos n) l = cond (leb n IN-SERIES) (got n l) bad
+lineCount (negsuc n) l = bad
 
 unfoldable pub count : List ℕ → List ℕ → Parsed ℕ
-count name l = then (fixed name l) (λ u r. then (field 10 r) upTo10)
+count name l = then (fixed name l) (λ u r. then (field 10 r) lineCount)
 
 unfoldable pub table : List ℕ → Parsed (ℕ × ℕ × ℕ)
 table l =
@@ -62,10 +59,6 @@ table l =
     then (count SERIES1 t) (λ a v. then (count SERIES2 v) (λ b w. then (count SERIES3 w) (λ c m. got (a, b, c) m)))))
 
 -- ---- the file
-
--- twelve numbers in their order
-abbrev pub termsFrom : List ℤ → Terms
-termsFrom zs = termsBy (λ i. getD zs i (pos 0))
 
 -- nothing follows the last line
 unfoldable pub ends : {A : Type 0} → A → List ℕ → Parsed A

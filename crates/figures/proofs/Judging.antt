@@ -55,6 +55,6 @@ evaluation-is t l s f x h es ef ex eh = rw (ef, ex, eh, es)
 
 -- both within, by the sums
 pub both-is : (t : Terms) (l : Places) (s : Totals) (x h : Bool) → s ≡ totalsOf t l → x ≡ withinBy 40 22341 (s .p) (t .sigmaXY) → h ≡ withinBy 10 6201 (s .qh) (t .sigmaH)
-    → x && h ≡ bothWithin (evaluation t l)
-unfolding totalsOf bothWithin evaluation judgedXY judgedH
+    → x && h ≡ bothWithin (judgedXY t l) (judgedH t l)
+unfolding totalsOf judgedXY judgedH
 both-is t l s x h es ex eh = rw (ex, eh, es)

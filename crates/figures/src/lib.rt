@@ -2,7 +2,7 @@
 ghost use mathlib.Core.Path.{_≡_};
 ghost use Prim.Native.Nat.{_≤_, _<_};
 ghost use Rattle.paper.specs.Figures.{shown};
-ghost use Rattle.paper.specs.Verdicts.{evaluation, bothWithin};
+ghost use Rattle.paper.specs.Verdicts.{judgedXY, judgedH, evaluation, bothWithin};
 ghost use Rattle.image.specs.Lengths.{ORIGIN, len, termsOf};
 ghost use Rattle.image.specs.Places.{placesOf};
 ghost use Rattle.image.specs.Ready.{Ready, IsSpread};
@@ -34,12 +34,20 @@ const TIMES_H: u64 = 10;
 
 const MOST_H: u64 = 6201;
 
+// chi² for 56 and 28 degrees, in hundredths.
+const CHI_XY: u64 = 7447;
+
+const CHI_H: u64 = 4134;
+
+// 1,024²: a figure is shown in 1,024ths of a millimetre.
+const SHOWN: u64 = 1024 * 1024;
+
 // What is shown of a sum: the greatest m with m² · 42,000 <= 1,048,576 · sum.
 fn figure(sum: u64) -> u64
     requires { ⌜ Modest sum ⌝ }
     ensures { λ r. ⌜ (r ≡ shown sum) × Held r ⌝ }
 {
-    roots::greatest(FIGURE, 1048576 * sum)
+    roots::greatest(FIGURE, SHOWN * sum)
 }
 
 // The figures of the four sums.
@@ -77,7 +85,7 @@ fn judged_by(times: u64, most: u64, divisor: u64, chi: u64, sum: u64, m: u64, si
 {
     let within = within_by(times, most, sum, sigma);
     let s = sigma - ORIGIN;
-    let b = roots::greatest(divisor, s * s * chi * 1048576);
+    let b = roots::greatest(divisor, s * s * chi * SHOWN);
     Judged { within, m, b }
 }
 
@@ -92,7 +100,7 @@ pub fn evaluate(terms: &[u64; Layout::TERMS], cells: &[u64; Layout::CELLS]) -> E
         TIMES_XY,
         MOST_XY,
         BOUND_XY,
-        7447,
+        CHI_XY,
         s.p,
         sheet.sxy,
         terms[Term::SIGMA_XY],
@@ -101,7 +109,7 @@ pub fn evaluate(terms: &[u64; Layout::TERMS], cells: &[u64; Layout::CELLS]) -> E
         TIMES_H,
         MOST_H,
         BOUND_H,
-        4134,
+        CHI_H,
         s.qh,
         sheet.sh,
         terms[Term::SIGMA_H],
@@ -112,7 +120,7 @@ pub fn evaluate(terms: &[u64; Layout::TERMS], cells: &[u64; Layout::CELLS]) -> E
 // Whether both are within, by the sums alone: no figure and no bound is worked out.
 pub fn both_within(terms: &[u64; Layout::TERMS], cells: &[u64; Layout::CELLS]) -> bool
     requires { ⌜ Ready (now terms) (now cells) ⌝ }
-    ensures { λ r. ⌜ r ≡ bothWithin (evaluation (termsOf (now (terms .entry))) (placesOf (now (cells .entry)))) ⌝ }
+    ensures { λ r. ⌜ r ≡ bothWithin (judgedXY (termsOf (now (terms .entry))) (placesOf (now (cells .entry)))) (judgedH (termsOf (now (terms .entry))) (placesOf (now (cells .entry)))) ⌝ }
 {
     let s = sums::sums(terms, cells);
     within_by(TIMES_XY, MOST_XY, s.p, terms[Term::SIGMA_XY])

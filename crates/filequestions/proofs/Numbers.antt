@@ -6,13 +6,13 @@ use mathlib.Core.Path.{_≡_, refl, subst}
 use mathlib.Core.Bool.{Bool, true, false, cond, not, _&&_}
 use mathlib.Core.Option.{Option, none, some, Option·map}
 use mathlib.Core.List.{List, [], _∷_}
-use lib.Dec.{eqb, ltb}
-use borrow.Author.Tests.{ltb-true}
+use lib.Dec.{eqb, leb}
+use borrow.Author.Tests.{leb-true}
 use Rattle.paper.specs.Units.{Terms, Places, inRange, allNear}
 use Rattle.paper.specs.Screening.{Suspect, sheetOrder, first, firstSuspect, suspicious}
 use Rattle.paper.specs.Books as paper
 use Rattle.paper.specs.Calls.{evaluate}
-use Rattle.paper.specs.Refusals.{TERMS, CLOSED, FAR, SHORT, SUSPECT}
+use Rattle.paper.specs.Refusals.{TERMS, CLOSED, FAR, SHORT, SUSPECT, FORM}
 use Rattle.paper.specs.TurnedAway.{isClosed, short, suspectOf, found, lowest, evaluating, evaluated, questioned}
 use Rattle.paper.specs.Answers.{evaluates, Answer, nowhere, named, suspectIn, given, beside, answered, says, unless}
 use Rattle.paper.specs.Alone as alone
@@ -25,9 +25,9 @@ use Rattle.verdicts.specs.Given as given
 use Rattle.verdicts.specs.Text.{axisLine, verdictText}
 use Rattle.report.specs.Text.{refusalNumbers, refusalText, reportText, valueText, reportOf}
 
--- at most the greatest number that a report prints
+-- at most the greatest number of a refusal; those of a suspect are no greater
 abbrev small : ℕ → Bool
-small n = ltb n 15
+small n = leb n FORM
 
 -- ---- the suspect is one of the sheet's
 
@@ -117,7 +117,7 @@ file-prints c = go (alone.refusedFile c) (file-small c)
 
 module _ (a : Answer) (p : Prints a) where
   refusal-fits : given.Fits (a .refused)
-  refusal-fits = omega (arith, ltb-true (a .refused) 15 (p .refused))
+  refusal-fits = omega (arith, leb-true (a .refused) FORM (p .refused))
 
   three : (small (a .suspect .series) ≡ true) × (small (a .suspect .set) ≡ true) × (small (a .suspect .quantity) ≡ true)
   three =
@@ -129,9 +129,9 @@ module _ (a : Answer) (p : Prints a) where
 
   suspect-fits : given.Fits (a .suspect .series) × given.Fits (a .suspect .set) × given.Fits (a .suspect .quantity)
   suspect-fits = (
-    omega (arith, ltb-true (a .suspect .series) 15 (three .0)),
-    omega (arith, ltb-true (a .suspect .set) 15 (three .1)),
-    omega (arith, ltb-true (a .suspect .quantity) 15 (three .2)),
+    omega (arith, leb-true (a .suspect .series) FORM (three .0)),
+    omega (arith, leb-true (a .suspect .set) FORM (three .1)),
+    omega (arith, leb-true (a .suspect .quantity) FORM (three .2)),
   )
 
 -- ---- in the code's record

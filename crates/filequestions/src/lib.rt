@@ -12,7 +12,7 @@ use evaluation::Judgement;
 use report::Printed;
 
 // The evaluation of a file's book, in whole numbers: after the file's own refusals SHORT, SUSPECT.
-pub fn judge_file(file: &[u8]) -> Judgement
+fn judge_file(file: &[u8]) -> Judgement
     ensures { λ r. ⌜ (r ≡ judgementOf (evaluatedFile (readOf (now (file .entry))))) × AllHeld (r .evaluation) ⌝ }
 {
     let s = filebook::read_book(file);

@@ -24,23 +24,13 @@ use Rattle.paper.proofs.Form.{partsO}
 use Rattle.paper.proofs.Acts.{unless-refused}
 use Rattle.paper.proofs.Stays.{formed-after, formed-run}
 use Rattle.claims.proofs.PassList.{Rises, on-the-list, list-rises}
-use Rattle.lent.specs.Image.{LENGTH, image, inForm, stateOf}
+use Rattle.lent.specs.Image.{LENGTH, image, stateOf}
 use Rattle.lent.specs.Calls.{Out, out, callOn, called}
-use Rattle.lent.proofs.Image.{form-length, image-state, state-out}
+use Rattle.lent.proofs.Image.{length-image, image-state}
 use Rattle.history.specs.Runs.{answerOn, ran, seenIn, listedIn, Only}
 use Rattle.history.specs.Claim.{readAs, HoldsOn}
 
 -- ---- one call, and calls, on the image of a register in form
-
-length-image : (r : Register) → InForm r → length (image r) ≡ LENGTH
-length-image r v = go (inForm (image r)) refl
-  where
-    go : (b : Bool) → inForm (image r) ≡ b → length (image r) ≡ LENGTH
-    go true e = form-length (image r) e
-    go false e =
-        let u : none ≡ some r = sym (state-out (image r) e) ∙ image-state r v in
-        let z : _≡_ {A = ℕ} 0 1 = cc in
-        absurd (omega arith)
 
 called-image : (c : Call) (r : Register) → InForm r → called c (image r) ≡ out (says c (sights r)) (image (after c r))
 unfolding called callOn says after

@@ -134,17 +134,17 @@ image-set r k o h v g = sym (laid-set BOOK bookBytes none r k o h (books-wide r 
 
 -- ---- ONE STATE, ONE IMAGE
 
+pub length-image : (r : paper.Register) → InForm r → length (image r) ≡ LENGTH
+length-image r v = length-laid BOOK bookBytes none r (books-wide r v) ∙ ap (λ (n : ℕ). n * BOOK) (v .sixteen)
+
 -- LAW: a register in form is what its image holds
 pub image-state : (r : paper.Register) → InForm r → stateOf (image r) ≡ some r
 unfolding stateOf inForm
 image-state r v =
-    rw (eq-eqb (length (image r)) LENGTH long, tests-blocks BOOK bookIn bookForm BOOKS (image r) each-formed, means)
+    rw (eq-eqb (length (image r)) LENGTH (length-image r v), tests-blocks BOOK bookIn bookForm BOOKS (image r) each-formed, means)
   where
     w : (i : ℕ) → length (bookBytes (getD r i none)) ≡ BOOK
     w = books-wide r v
-
-    long : length (image r) ≡ LENGTH
-    long = length-laid BOOK bookBytes none r w ∙ ap (λ (n : ℕ). n * BOOK) (v .sixteen)
 
     each-formed : (k : ℕ) → k < BOOKS → bookForm (bookIn (drop (k * BOOK) (image r))) ≡ true
     each-formed k h =

@@ -7,8 +7,8 @@ use mathlib.Core.Path.{_≡_, refl, sym, _∙_}
 use mathlib.Core.Bool.{true, false, cond}
 use mathlib.Core.Option.{none, some, Option·map}
 use mathlib.Core.List.{List, [], _∷_, _++_, append-nil}
-use lib.ListN.{length, take, drop, getD, set, replicate}
-use lib.Seq.{take-suc-set, take-length, drop-length}
+use lib.ListN.{length, take, drop, getD, set}
+use lib.Seq.{take-suc-set, take-length}
 use Rattle.paper.specs.Procedure.{BOOKS}
 use Rattle.paper.specs.Books.{sight, sights}
 use Rattle.paper.specs.Screening.{each}
@@ -48,9 +48,6 @@ module _ (bs : List ℕ) (k : ℕ) (h : k < BOOKS) where
 
 pub written-all : (xs out l : List ℕ) (i : ℕ) → i ≡ length xs → l ≡ take i xs ++ drop i out → l ≡ xs ++ drop (length xs) out
 written-all xs out l i h e = e ∙ rw (h, take-length xs)
-
-pub cleared-all : (out l : List ℕ) (i : ℕ) → i ≡ length out → l ≡ replicate i 0 ++ drop i out → l ≡ replicate (length out) 0
-cleared-all out l i h e = e ∙ rw (h, drop-length out, append-nil)
 
 -- ---- one book
 

@@ -4,7 +4,7 @@ ghost use mathlib.Core.Bool.{true};
 ghost use mathlib.Core.List.{_++_};
 ghost use mathlib.Core.Option.{Option·map};
 ghost use Prim.Native.Nat.{_*_, _≤_, _<_};
-ghost use lib.ListN.{length, take, drop, replicate};
+ghost use lib.ListN.{length, take, drop};
 ghost use Rattle.paper.specs.Procedure.{BOOKS};
 ghost use Rattle.paper.specs.Books.{sight, sights};
 ghost use Rattle.paper.specs.TurnedAway.{onList, passing};
@@ -63,17 +63,6 @@ pub fn write(from: &[u8], list: &mut [u8])
     let mut i: usize = 0;
     while i < from.len() {
         list[i] = from[i];
-        i += 1;
-    }
-}
-
-// Every byte of a buffer 0.
-pub fn clear(bytes: &mut [u8])
-    ensures { λ _. ⌜ now (bytes .exit) ≡ replicate (length (now (bytes .entry))) 0 ⌝ }
-{
-    let mut i: usize = 0;
-    while i < bytes.len() {
-        bytes[i] = 0;
         i += 1;
     }
 }

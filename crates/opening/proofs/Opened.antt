@@ -30,7 +30,7 @@ use Rattle.book.proofs.Steps.{step-unformed, step-refused, step-done}
 module _ (b : Book) (s : Sized b) (e : bookForm b ≡ true) where
   pub strike-closed : b .opened ≡ 0 → step CLOSED b ≡ stepOf strike b
   unfolding rules lowest
-  strike-closed z = step-refused b strike 4 s e (rw (meant-closed b z))
+  strike-closed z = step-refused b strike _ s e (rw (meant-closed b z))
 
   pub struck : (b′ : Book) → (b .opened ≡ 0 → ⊥) → b′ ≡ bookOf none → step 0 b′ ≡ stepOf strike b
   unfolding rules lowest effect affected
@@ -39,11 +39,11 @@ module _ (b : Book) (s : Sized b) (e : bookForm b ≡ true) where
   module _ (t : Terms) where
     pub begin-open : (b .opened ≡ 0 → ⊥) → step OPEN b ≡ stepOf (begin t) b
     unfolding rules lowest
-    begin-open f = step-refused b (begin t) 2 s e (rw (meant-open b f))
+    begin-open f = step-refused b (begin t) _ s e (rw (meant-open b f))
 
     pub begin-range : b .opened ≡ 0 → inRange t ≡ false → step TERMS b ≡ stepOf (begin t) b
     unfolding rules lowest
-    begin-range z r = step-refused b (begin t) 3 s e (rw (meant-closed b z, r))
+    begin-range z r = step-refused b (begin t) _ s e (rw (meant-closed b z, r))
 
     pub begun-with : (b′ : Book) → b .opened ≡ 0 → inRange t ≡ true → b′ ≡ bookOf (some (paper.blank t)) → step 0 b′ ≡ stepOf (begin t) b
     unfolding rules lowest effect affected

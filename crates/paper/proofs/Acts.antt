@@ -12,7 +12,7 @@ use Rattle.paper.specs.Procedure.{PLACES, BOOKS}
 use Rattle.paper.specs.Units.{inRange, Place, inSheet, number, Places, Triple}
 use Rattle.paper.specs.Books.{Change, make, inverse, Book, Register, closed, book, put, Sight, sights}
 use Rattle.paper.specs.Calls.{Act, begin, strike, enter, correct, withdraw, takeBack, Call, fresh, on, ask, Effect, opens, closes, makes, undoes, effect, affected}
-use Rattle.paper.specs.TurnedAway.{empty, far, nothingKept, lowest, rules, noBook, refusal}
+use Rattle.paper.specs.TurnedAway.{empty, far, nothingKept, lowest, rules, refusal}
 use Rattle.paper.specs.Answers.{unless, after}
 use Rattle.paper.proofs.Tests.{among, passed, below, told-point}
 use Rattle.paper.proofs.Form.{Fits}
@@ -26,6 +26,10 @@ make-inverse c l = rw (set-set l (c .place)) (set-getD l (c .place) none)
 pub put-there : (c : Change) (l : Places) → c .place < PLACES → length l ≡ PLACES → getD (make c l) (c .place) none ≡ c .put
 unfolding make
 put-there c l h n = getD-set-same l (c .place) (c .put) none (rw n h)
+
+pub inverse-inverse : (c : Change) (l : Places) → c .place < PLACES → length l ≡ PLACES → inverse (inverse c l) (make c l) ≡ c
+unfolding inverse
+inverse-inverse c l h n = rw (put-there c l h n)
 
 pub length-make : (c : Change) (l : Places) → length (make c l) ≡ length l
 unfolding make
@@ -43,11 +47,11 @@ Able undoes (some s) = s .count ≡ 0 → ⊥
 
 pub book-number : (k : ℕ) (a : Act) (s : Option Sight) → refusal k a s ≡ 0 → (1 ≤ k) × (k ≤ BOOKS)
 unfolding refusal
-book-number k a s e = among BOOKS k (not-false _ (passed 1 (noBook k) (rules a s) e .0))
+book-number k a s e = among BOOKS k (not-false _ (passed _ _ _ e .0))
 
 pub no-objection : (k : ℕ) (a : Act) (s : Option Sight) → refusal k a s ≡ 0 → lowest (rules a s) ≡ 0
 unfolding refusal
-no-objection k a s e = passed 1 (noBook k) (rules a s) e .1
+no-objection k a s e = passed _ _ _ e .1
 
 -- a reading put at a place of the sheet, near its point
 put-fits : (p : Place) (v : Triple) (s : Sight) → inSheet p ≡ true → far p v (some s) ≡ false → Fits (s .terms) (s .places) (record { place = number p; put = some v })
@@ -64,25 +68,25 @@ some-kept s f = eqb-false (s .count) 0 f
 
 pub able : (a : Act) (s : Option Sight) → lowest (rules a s) ≡ 0 → Able (effect a) s
 unfolding rules effect
-able (begin t) s e = not-false _ (passed 3 _ _ (passed 2 _ _ e .1) .0)
+able (begin t) s e = not-false _ (passed _ _ _ (passed _ _ _ e .1) .0)
 able strike s e = tt
 able (enter p v) none e = tt
 able (correct p v) none e = tt
 able (withdraw p) none e = tt
 able takeBack none e = tt
 able (enter p v) (some s) e =
-    let a = passed 1 _ _ e in
-    let c = passed 5 _ _ (passed 4 _ _ (a .1) .1) in
-    put-fits p v s (not-false _ (a .0)) (passed 7 _ _ (c .1) .0)
+    let a = passed _ _ _ e in
+    let c = passed _ _ _ (passed _ _ _ (a .1) .1) in
+    put-fits p v s (not-false _ (a .0)) (passed _ _ _ (c .1) .0)
 able (correct p v) (some s) e =
-    let a = passed 1 _ _ e in
-    let c = passed 6 _ _ (passed 4 _ _ (a .1) .1) in
-    put-fits p v s (not-false _ (a .0)) (passed 7 _ _ (c .1) .0)
+    let a = passed _ _ _ e in
+    let c = passed _ _ _ (passed _ _ _ (a .1) .1) in
+    put-fits p v s (not-false _ (a .0)) (passed _ _ _ (c .1) .0)
 able (withdraw p) (some s) e =
-    let a = passed 1 _ _ e in
-    let c = passed 6 _ _ (passed 4 _ _ (a .1) .1) in
+    let a = passed _ _ _ e in
+    let c = passed _ _ _ (passed _ _ _ (a .1) .1) in
     none-fits p s (not-false _ (a .0)) (c .0)
-able takeBack (some s) e = some-kept s (passed 8 _ _ (passed 4 _ _ e .1) .0)
+able takeBack (some s) e = some-kept s (passed _ _ _ (passed _ _ _ e .1) .0)
 
 -- a refusal leaves what was there
 pub unless-refused {ℓ} : {A : Type ℓ} (m : ℕ) (new old : A) → (m ≡ 0 → ⊥) → unless m new old ≡ old

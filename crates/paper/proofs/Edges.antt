@@ -8,17 +8,14 @@ use mathlib.Core.Option.{Option, none, some}
 use mathlib.Core.List.{List, [], _∷_, _++_, map}
 use lib.ListN.{getD, replicate}
 use lib.Dec.{eqb}
-use lib.IntN.{ℤ, pos, negℤ}
+use lib.IntN.{ℤ, pos}
 use Rattle.paper.specs.Units.{Triple, zeros, Terms, Place, Places}
 use Rattle.paper.specs.Books.{Book, nothing, blank}
 use Rattle.paper.specs.Calls.{Act, begin, strike, enter, correct, withdraw, takeBack, read, changes, residual, evaluate, compare, passList, Call, fresh, on, ask}
-use Rattle.paper.proofs.Inputs.{Input, calls, names, inTurn, alone, asksAlone, comparesAlone, file, evaluatesFile, triple, place, termsWith, terms, single, throughout, full, filled, Case, _⇒_, computed, marked, no-case, holds}
+use Rattle.paper.proofs.Inputs.{Input, calls, names, inTurn, alone, asksAlone, comparesAlone, file, evaluatesFile, minus, triple, place, termsWith, terms, single, throughout, full, filled, Case, _⇒_, computed, marked, no-case, holds}
 use Rattle.paper.proofs.Examples.{first-place, example}
 
 -- ---- verdicts, comparison, screening, the list
-
-abbrev minus : ℕ → ℤ
-minus n = negℤ (pos n)
 
 three : ℤ → ℤ → ℤ → ℕ → ℤ
 three u v w j = cond (eqb j 1) u (cond (eqb j 2) v (cond (eqb j 3) w (pos 0)))
@@ -156,16 +153,16 @@ unfolding few many below-place above-place second-place first-place far-reading 
 refused =
     -- no book has these numbers
     (inTurn few (on 0 (begin terms) ∷ on 17 (begin terms) ∷ on 18446744073709551616 (begin terms) ∷ on 16 (begin terms) ∷ []) ⇒ 2 ∷ 2 ∷ 2 ∷ 0 ∷ [])
-    -- open: 2 and 3, 2 and 4, 3 and 4
+    -- open: 2, a second time too; 2 and 4; 3 and 4
     ∷ (inTurn (on 17 (begin terms) ∷ few) (on 17 (begin terms) ∷ on 0 (begin bad-terms) ∷ on 1 (begin bad-terms) ∷ on 2 (begin bad-terms) ∷ []) ⇒ 2 ∷ 2 ∷ 3 ∷ 4 ∷ [])
     -- strike: 2 and 5
     ∷ (inTurn few (on 17 strike ∷ on 2 strike ∷ on 1 strike ∷ on 1 strike ∷ []) ⇒ 2 ∷ 5 ∷ 0 ∷ 5 ∷ [])
     -- a fresh register closes every book
     ∷ (inTurn few (fresh ∷ on 1 strike ∷ ask (changes 3) ∷ on 4 (begin terms) ∷ []) ⇒ 0 ∷ 5 ∷ 5 ∷ 0 ∷ [])
-    -- enter: 2 and 5, of the book and of the place; 5 and 8; 2 and 6; 2 and 8; 6 and 8
+    -- enter: 2 and 5, of the book and of the place; 5, whatever is entered; 2 and 6; 2 and 8; 6 and 8
     ∷ (inTurn few (on 17 (enter first-place zeros) ∷ on 2 (enter above-place zeros) ∷ on 2 (enter first-place far-reading) ∷ []) ⇒ 2 ∷ 2 ∷ 5 ∷ [])
     ∷ (inTurn few (on 1 (enter below-place zeros) ∷ on 1 (enter above-place far-reading) ∷ on 1 (enter first-place far-reading) ∷ on 1 (enter second-place far-reading) ∷ []) ⇒ 2 ∷ 2 ∷ 6 ∷ 8 ∷ [])
-    -- correct: 2 and 5; 5, 7 and 8; 2 and 7; 2 and 8; 7 and 8
+    -- correct: 2 and 5; 5 and 7, whatever it is corrected to; 2 and 7; 2 and 8; 7 and 8
     ∷ (inTurn few (on 17 (correct first-place zeros) ∷ on 2 (correct above-place zeros) ∷ on 2 (correct first-place far-reading) ∷ []) ⇒ 2 ∷ 2 ∷ 5 ∷ [])
     ∷ (inTurn few (on 1 (correct above-place zeros) ∷ on 1 (correct below-place far-reading) ∷ on 1 (correct second-place far-reading) ∷ on 1 (correct first-place far-reading) ∷ []) ⇒ 2 ∷ 2 ∷ 7 ∷ 8 ∷ [])
     -- withdraw: 2 and 5; 5 and 7; 2 and 7
@@ -180,10 +177,10 @@ refused =
     ∷ (inTurn few (ask (residual 17 first-place) ∷ ask (residual 2 above-place) ∷ ask (residual 2 first-place) ∷ ask (residual 1 above-place) ∷ ask (residual 1 first-place) ∷ []) ⇒ 2 ∷ 2 ∷ 5 ∷ 2 ∷ 10 ∷ [])
     -- evaluate: 2, 5 and 10; 5 and 10; 10 and 11
     ∷ (inTurn few (ask (evaluate 17) ∷ ask (evaluate 2) ∷ ask (evaluate 3) ∷ ask (evaluate 4) ∷ []) ⇒ 2 ∷ 5 ∷ 10 ∷ 10 ∷ [])
-    -- compare: 2 of the first book, of the second and of the axis, and 5; 2, and 10, 11 or 12; 5 of either, and 10 of the other
+    -- compare: 2 of the first book, of the second and of the axis, and 5; 2, and 10, 11 or 12; 5 of either, and 10 or 11 of the other
     ∷ (inTurn many (ask (compare 17 2 1) ∷ ask (compare 2 17 1) ∷ ask (compare 2 2 0) ∷ ask (compare 2 2 3) ∷ []) ⇒ 2 ∷ 2 ∷ 2 ∷ 2 ∷ [])
     ∷ (inTurn many (ask (compare 3 17 1) ∷ ask (compare 3 1 3) ∷ ask (compare 7 17 1) ∷ ask (compare 1 7 0) ∷ ask (compare 1 5 3) ∷ []) ⇒ 2 ∷ 2 ∷ 2 ∷ 2 ∷ 2 ∷ [])
-    ∷ (inTurn many (ask (compare 2 3 1) ∷ ask (compare 3 2 1) ∷ []) ⇒ 5 ∷ 5 ∷ [])
+    ∷ (inTurn many (ask (compare 2 3 1) ∷ ask (compare 3 2 1) ∷ ask (compare 2 7 1) ∷ ask (compare 7 2 1) ∷ []) ⇒ 5 ∷ 5 ∷ 5 ∷ 5 ∷ [])
     -- 10 of either, and 11 of the other; 11 of either, and 12 of the second
     ∷ (inTurn many (ask (compare 3 7 1) ∷ ask (compare 7 3 1) ∷ ask (compare 1 7 1) ∷ ask (compare 7 6 1) ∷ []) ⇒ 10 ∷ 10 ∷ 11 ∷ 11 ∷ [])
     -- 12: h, xy; the other axis; the first book's sum does not matter

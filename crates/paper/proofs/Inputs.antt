@@ -7,17 +7,17 @@ use mathlib.Core.Option.{Option, none, some}
 use mathlib.Core.List.{List, [], _∷_, _++_, map}
 use lib.ListN.{length, getD, set, replicate}
 use lib.Dec.{eqb}
-use lib.IntN.{ℤ, pos, negsuc}
+use lib.IntN.{ℤ, pos, negsuc, negℤ}
 use lib.Ieee.{size, span, climb}
 use Rattle.integers.specs.Sigma.{Σℤ, ΣN}
 use Rattle.whole.specs.Root.{digits, rootOf}
 use Rattle.whole.specs.Greatest.{greatestOf}
 use Rattle.whole.specs.Nearest.{nearestOf}
 use Rattle.paper.specs.Procedure.{SERIES, SETS, POINTS, PLACES}
-use Rattle.paper.specs.Units.{Triple, zeros, Terms, termsBy, onEarth, within, inRange, near, Place, inSheet, inOrder, allNear, Places}
+use Rattle.paper.specs.Units.{Triple, zeros, Terms, termsFrom, onEarth, within, inRange, near, Place, inSheet, inOrder, allNear, Places}
 use Rattle.paper.specs.Screening.{q, D, distanceOff, heightOff, passes, Suspect, suspicious, each, sheetOrder, first, firstSuspect}
 use Rattle.paper.specs.Figures.{x-axis, offset, S, Q, residual15, P, shown, figures}
-use Rattle.paper.specs.Verdicts.{boundXY, boundH, judgedXY, judgedH, evaluation, bothWithin, sum, samePopulation}
+use Rattle.paper.specs.Verdicts.{boundXY, boundH, judgedXY, judgedH, evaluation, sum, samePopulation}
 use Rattle.paper.specs.declared.Judged.{Judged}
 use Rattle.paper.specs.declared.Shown.{Shown}
 use Rattle.paper.specs.Books.{Book, Register, make, inverse, nothing, blank, changed, undone, closed, sight, sights}
@@ -28,6 +28,9 @@ use Rattle.paper.specs.Alone.{refusedAlone, next, askedAlone, comparedAl
 use Rattle.paper.proofs.Tables.{each-right}
 
 -- ---- terms, places and calls
+
+abbrev pub minus : ℕ → ℤ
+minus n = negℤ (pos n)
 
 unfoldable pub triple : ℤ → ℤ → ℤ → Triple
 triple a b c = record { x = a; y = b; h = c }
@@ -45,12 +48,9 @@ replaced : List (ℕ × ℤ) → List ℤ → List ℤ
 replaced [] l = l
 replaced (o ∷ os) l = replaced os (set l (o .0) (o .1))
 
-termsOf : List ℤ → Terms
-termsOf l = termsBy (λ i. getD l i (pos 0))
-
 unfoldable pub termsWith : List (ℕ × ℤ) → Terms
-unfolding termsOf replaced numbers
-termsWith os = termsOf (replaced os numbers)
+unfolding replaced numbers
+termsWith os = termsFrom (replaced os numbers)
 
 unfoldable pub terms : Terms
 unfolding termsWith
@@ -185,7 +185,7 @@ refusals r [] = []
 refusals r (c ∷ cs) = says c (sights r) .refused ∷ refusals (after c r) cs
 
 unfoldable gives : Input → List ℕ
-unfolding bit answer suspected sheetOf state stateO terms termsWith triple pair refusals each size span climb Σℤ ΣN digits rootOf greatestOf nearestOf onEarth within inRange inSheet inOrder allNear q D distanceOff heightOff passes suspicious sheetOrder first firstSuspect offset S Q residual15 P shown figures boundXY boundH judgedXY judgedH evaluation bothWithin sum samePopulation make inverse nothing blank changed undone closed sight sights empty far nothingKept short suspectOf sumOf lowest rules evaluating refusal evaluated onList passing questioned suspectIn given beside says effect affected after run refusedAlone next askedAlone comparedAlone refusedFile bookOf evaluatedFile
+unfolding bit answer suspected sheetOf state stateO terms termsWith triple pair refusals each size span climb Σℤ ΣN digits rootOf greatestOf nearestOf onEarth within inRange inSheet inOrder allNear q D distanceOff heightOff passes suspicious sheetOrder first firstSuspect offset S Q residual15 P shown figures boundXY boundH judgedXY judgedH evaluation sum samePopulation make inverse nothing blank changed undone closed sight sights empty far nothingKept short suspectOf sumOf lowest rules evaluating refusal evaluated onList passing questioned suspectIn given beside says effect affected after run refusedAlone next askedAlone comparedAlone refusedFile bookOf evaluatedFile
 gives (screens s d) = bit (passes s d) ∷ []
 gives (roots n) = nearestOf n ∷ []
 gives (distances x y d) = D (pair x y) 1 1 ∷ distanceOff (termsWith ((0, d) ∷ [])) (pair x y) 1 1 ∷ []

@@ -4,12 +4,9 @@ use Prim.Native.Nat.{ℕ, _+_}
 use mathlib.Core.Path.{_≡_, refl}
 use mathlib.Core.List.{List, [], _∷_, map}
 use lib.ListN.{getD}
-use lib.IntN.{ℤ, pos, negℤ, _+ℤ_, _-ℤ_}
+use lib.IntN.{ℤ, pos, _+ℤ_, _-ℤ_}
 use Rattle.paper.specs.Units.{Triple}
-use Rattle.paper.proofs.Inputs.{Input, ranged, reaches, placed, triple, place, Case, _⇒_, computed, marked, no-case, holds}
-
-abbrev minus : ℕ → ℤ
-minus n = negℤ (pos n)
+use Rattle.paper.proofs.Inputs.{Input, ranged, reaches, placed, minus, triple, place, Case, _⇒_, computed, marked, no-case, holds}
 
 -- term i, counted from 0: one below its least, its least, its greatest, one above it
 ends : ℕ → ℤ → ℤ → Input

@@ -1,5 +1,5 @@
 -- The numbers of the procedure and of the ranges as `constants` gives them, and of the refusals as `refusal_constants` does.
-use Rattle.paper.specs.Procedure.{SERIES, SETS, POINTS, ROUNDS, PLACES, DEGREES-H, DEGREES-XY, BOOKS, KEPT, SPAN, SPREAD, EARTH, NEARBY}
+use Rattle.paper.specs.Procedure.{SERIES, SETS, POINTS, ROUNDS, IN-SERIES, PLACES, DEGREES-H, DEGREES-XY, BOOKS, KEPT, SPAN, SPREAD, EARTH, NEARBY}
 use Rattle.paper.specs.Refusals.{REGISTER, PLACE, OPEN, TERMS, CLOSED, FILLED, EMPTY, FAR, NOTHING, SHORT, SUSPECT, ZERO, ROOM, FORM}
 use Rattle.procedure.specs.declared.Numbers.{Numbers}
 use Rattle.procedure.specs.declared.Refusals.{Refusals}
@@ -10,6 +10,7 @@ numbers = record {
   sets = SETS;
   points = POINTS;
   rounds = ROUNDS;
+  «in_series» = IN-SERIES;
   places = PLACES;
   «degrees_h» = DEGREES-H;
   «degrees_xy» = DEGREES-XY;

@@ -14,6 +14,8 @@ impl Procedure {
 
     pub const ROUNDS: usize = Self::SERIES * Self::SETS;
 
+    pub const IN_SERIES: usize = Self::SETS * Self::POINTS;
+
     pub const PLACES: usize = Self::ROUNDS * Self::POINTS;
 
     pub const DEGREES_H: usize = Self::POINTS * (Self::ROUNDS - 1);
@@ -47,6 +49,7 @@ pub struct Numbers {
     pub sets: usize,
     pub points: usize,
     pub rounds: usize,
+    pub in_series: usize,
     pub places: usize,
     pub degrees_h: usize,
     pub degrees_xy: usize,
@@ -67,6 +70,7 @@ pub fn constants() -> Numbers
         sets: Procedure::SETS,
         points: Procedure::POINTS,
         rounds: Procedure::ROUNDS,
+        in_series: Procedure::IN_SERIES,
         places: Procedure::PLACES,
         degrees_h: Procedure::DEGREES_H,
         degrees_xy: Procedure::DEGREES_XY,

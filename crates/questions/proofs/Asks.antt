@@ -4,13 +4,14 @@ use Prim.Native.Nat.{ℕ}
 use mathlib.Core.Path.{_≡_, refl, sym, ap, _∙_}
 use mathlib.Core.Bool.{true, false}
 use mathlib.Core.Option.{some}
-use Rattle.paper.specs.Units.{zeros, Place, isEmpty}
+use Rattle.paper.specs.Units.{zeros, Place, placeAt, isEmpty}
 use Rattle.paper.specs.Books as paper
 use Rattle.paper.specs.Calls.{residual, evaluate}
 use Rattle.paper.specs.Refusals.{REGISTER, CLOSED, SHORT}
 use Rattle.paper.specs.TurnedAway.{some?, short, lowest, evaluating, questioned}
 use Rattle.paper.specs.Answers.{residualAt, given, beside, says}
 use Rattle.paper.specs.Alone.{askedAlone}
+use Rattle.paper.proofs.Places.{place-back}
 use Rattle.image.specs.Places.{placesOf}
 use Rattle.image.specs.Sights.{sightOf}
 use Rattle.book.specs.declared.Book.{Book}
@@ -21,8 +22,6 @@ use Rattle.readings.specs.Answers.{lengthsBy, lengthsOf}
 use Rattle.book.proofs.Meaning.{meant-closed, meant-open, seen-in, seen-out}
 use Rattle.book.proofs.Sought.{On, aim-on}
 use Rattle.readings.proofs.Asks.{asked-refused}
-use Rattle.sums.specs.Places.{placeAt}
-use Rattle.sums.proofs.Places.{place-back}
 use Rattle.evaluation.specs.Evaluating.{answerTo, judgementOf, notJudged}
 use Rattle.evaluation.proofs.Asked.{evaluate-asked}
 use Rattle.book.proofs.Opened.{Opened, words-seen}

@@ -5,10 +5,10 @@ use native.Mathlib.Omega.{arith}
 use native.Mathlib.Nat.{zero-add}
 use mathlib.Core.Path.{_≡_, sym, ap, _∙_}
 use mathlib.Core.Bool.{true, false}
-use mathlib.Core.List.{List, _++_}
+use mathlib.Core.List.{List, _++_, append-nil}
 use lib.ListN.{length, take, drop, replicate}
 use lib.Dec.{ltb}
-use lib.Seq.{length-take-le}
+use lib.Seq.{length-take-le, drop-length}
 use borrow.Author.Tests.{eq-eqb, ne-eqb, lt-ltb, le-ltb}
 use Rattle.paper.specs.Procedure.{BOOKS}
 use Rattle.paper.specs.Books as paper
@@ -53,6 +53,9 @@ module _ (bs buffer : List ℕ) where
         (rw (state-in bs e, z) (ap (countBy 0) (sym count-is)), rw (state-in bs e, z, zero-add (length p)) (w ∙ ap (λ (q : List ℕ). q ++ drop (length q) buffer) l))
 
 -- ---- a fresh register
+
+pub cleared-all : (out l : List ℕ) (i : ℕ) → i ≡ length out → l ≡ replicate i 0 ++ drop i out → l ≡ replicate (length out) 0
+cleared-all out l i h e = e ∙ rw (h, drop-length out, append-nil)
 
 pub fresh-refused : (bs : List ℕ) → (length bs ≡ LENGTH → ⊥) → Calls fresh bs REGISTER bs
 unfolding called callOn shut

@@ -1,6 +1,6 @@
 // The exported calls on a lent register as a whole: its length, a fresh one, the pass list. Any bytes may be handed in.
 ghost use mathlib.Core.Path.{_≡_};
-ghost use lib.ListN.{length};
+ghost use lib.ListN.{length, replicate};
 ghost use Rattle.paper.specs.Calls.{fresh, ask, passList};
 ghost use Rattle.readings.specs.Answers.{countOf};
 ghost use Rattle.lent.specs.Image.{LENGTH};
@@ -18,6 +18,17 @@ pub extern "C" fn rtk_length() -> u64
     Layout::REGISTER as u64
 }
 
+// Make every byte 0.
+fn clear(bytes: &mut [u8])
+    ensures { λ _. ⌜ now (bytes .exit) ≡ replicate (length (now (bytes .entry))) 0 ⌝ }
+{
+    let mut i: usize = 0;
+    while i < bytes.len() {
+        bytes[i] = 0;
+        i += 1;
+    }
+}
+
 // Make a fresh register over any bytes of the right length: every book is closed.
 #[no_mangle]
 pub extern "C" fn rtk_fresh(register: &mut [u8]) -> u64
@@ -26,7 +37,7 @@ pub extern "C" fn rtk_fresh(register: &mut [u8]) -> u64
     if register.len() != Layout::REGISTER {
         return Refusal::REGISTER;
     }
-    listing::clear(register);
+    clear(register);
     0
 }
 

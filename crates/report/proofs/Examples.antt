@@ -20,8 +20,8 @@ use Rattle.paper.specs.Alone.{askedAlone, refusedFile, bookOf, evaluatedFile}
 use Rattle.decimals.specs.Ascii.{ascii}
 use Rattle.decimals.specs.Numbers.{digitsIn, digits, numeral, sepOf, line}
 use Rattle.decimals.specs.Reader.{then, fixed, stops, run, nonzero, number, field, ahead, numbers}
-use Rattle.decimals.proofs.Tables.{each-right}
-use Rattle.fieldfile.specs.Reader.{placed, spot, spots, bodies, upTo10, count, table, ends, whole, readOf}
+use Rattle.paper.proofs.Tables.{each-right}
+use Rattle.fieldfile.specs.Reader.{placed, spot, spots, bodies, lineCount, count, table, ends, whole, readOf}
 use Rattle.fieldfile.proofs.Examples.{paper-file}
 use Rattle.verdicts.specs.Text.{axisLine, verdictText}
 use Rattle.report.specs.Text.{refusalNumbers, refusalText, reportText, valueText, reportOf}
@@ -56,7 +56,7 @@ cases =
     ∷ []
 
 all-right : map (λ (c : Case). printed (c .bytes)) cases ≡ map (λ (c : Case). c .prints) cases
-unfolding cases paper-file printed reportOf valueText reportText verdictText axisLine refusalText refusalNumbers evaluatedFile askedAlone says questioned bookOf refusedFile ascii digitsIn digits numeral sepOf line then fixed stops run nonzero number field ahead numbers placed spot spots bodies upTo10 count table ends whole readOf size span climb Σℤ ΣN rootDigits rootOf greatestOf nearestOf onEarth within inRange inOrder allNear q D distanceOff heightOff passes suspicious each sheetOrder first firstSuspect offset S Q P shown figures boundXY boundH judgedXY judgedH evaluation sight short suspectOf lowest evaluating evaluated suspectIn given beside
+unfolding cases paper-file printed reportOf valueText reportText verdictText axisLine refusalText refusalNumbers evaluatedFile askedAlone says questioned bookOf refusedFile ascii digitsIn digits numeral sepOf line then fixed stops run nonzero number field ahead numbers placed spot spots bodies lineCount count table ends whole readOf size span climb Σℤ ΣN rootDigits rootOf greatestOf nearestOf onEarth within inRange inOrder allNear q D distanceOff heightOff passes suspicious each sheetOrder first firstSuspect offset S Q P shown figures boundXY boundH judgedXY judgedH evaluation sight short suspectOf lowest evaluating evaluated suspectIn given beside
 all-right = refl
 
 pub case : ℕ → Case

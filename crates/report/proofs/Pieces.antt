@@ -21,7 +21,7 @@ use Rattle.verdicts.specs.Text.{verdictText}
 use Rattle.verdicts.specs.Given.{Fits}
 use Rattle.verdicts.proofs.Pieces.{all-fit, long-numbers}
 use Rattle.report.specs.Text.{REFUSED, refusalNumbers, refusalText, reportText}
-use Rattle.report.specs.Given.{held}
+use Rattle.report.specs.Given.{REPORT, held}
 use Rattle.report.specs.declared.Printed.{Printed}
 
 -- ---- what is chosen
@@ -46,11 +46,11 @@ module _ (n : ℕ) (s : Suspect) where
 
 -- ---- how long
 
-pub long-refusal : (n : ℕ) (s : Suspect) → Fits n → Fits (s .series) → Fits (s .set) → Fits (s .quantity) → length (refusalText n s) ≤ 80
+pub long-refusal : (n : ℕ) (s : Suspect) → Fits n → Fits (s .series) → Fits (s .set) → Fits (s .quantity) → length (refusalText n s) ≤ REPORT
 unfolding refusalText refusalNumbers all-fit ascii
 long-refusal n s p q r t = go (eqb n SUSPECT)
   where
-    go : (b : Bool) → length (REFUSED ++ line (cond b (map pos (n ∷ s .series ∷ s .set ∷ s .quantity ∷ [])) (map pos (n ∷ [])))) ≤ 80
+    go : (b : Bool) → length (REFUSED ++ line (cond b (map pos (n ∷ s .series ∷ s .set ∷ s .quantity ∷ [])) (map pos (n ∷ [])))) ≤ REPORT
     go true = simp length-append (omega (arith, long-numbers (n ∷ s .series ∷ s .set ∷ s .quantity ∷ []) (p, (q, (r, (t, tt))))))
     go false = simp length-append (omega (arith, long-numbers (n ∷ []) (p, tt)))
 
@@ -64,16 +64,16 @@ drop-zeros (suc n) (suc m) = let e : suc m - suc n ≡ m - n = omega arith in rw
 abbrev printed : List ℕ → ℕ → Printed
 printed bytes n = record { bytes = bytes; len = n }
 
-pub held-is : {text last : List ℕ} {r : ℕ} (t : List ℕ) → t ≡ text → Put (replicate 80 0) 0 text last r → printed last r ≡ held t
+pub held-is : {text last : List ℕ} {r : ℕ} (t : List ℕ) → t ≡ text → Put (replicate REPORT 0) 0 text last r → printed last r ≡ held t
 unfolding held pasted
 held-is {text} t e p =
     let f : 0 + length text ≡ length text = omega arith in
-    rw (e, p .row, p .end, f, drop-zeros (length text) 80)
+    rw (e, p .row, p .end, f, drop-zeros (length text) REPORT)
 
 -- the first `len` bytes are the text
 pub held-text : (t : List ℕ) → take (held t .len) (held t .bytes) ≡ t
 unfolding held
-held-text t = take-append-seam t (replicate (80 - length t) 0)
+held-text t = take-append-seam t (replicate (REPORT - length t) 0)
 
 -- and they lie within the bytes
 pub held-room : (p : Printed) (t : List ℕ) → p ≡ held t → p .len ≤ length (p .bytes)

@@ -10,9 +10,12 @@ use image::ORIGIN;
 use paper::Judged;
 use procedure::Refusal;
 
+// The bytes in which a report is held; no report is longer.
+const REPORT: usize = 80;
+
 // The first `len` bytes are the text.
 pub struct Printed {
-    pub bytes: [u8; 80],
+    pub bytes: [u8; REPORT],
     pub len: usize,
 }
 
@@ -40,7 +43,7 @@ pub fn report(refusal: u64, series: u64, set: u64, quantity: u64, xy: Judged, h:
     requires { ⌜ Fits refusal × Fits series × Fits set × Fits quantity × FitsAxis xy × FitsAxis h ⌝ }
     ensures { λ r. ⌜ r ≡ held (reportText refusal (suspect series set quantity) xy h) ⌝ }
 {
-    let mut bytes = [0u8; 80];
+    let mut bytes = [0u8; REPORT];
     if refusal == 0 {
         let len = verdicts::put_verdicts(&mut bytes, xy, h);
         return Printed { bytes, len };

@@ -20,7 +20,7 @@ fn above(n: u64) -> u64
 }
 
 // The root of n, rounded down. The interval from low up to high, which holds it, is halved until it is one number.
-pub fn root(n: u64) -> u64
+fn root(n: u64) -> u64
     ensures { λ r. ⌜ Root n r ⌝ }
 {
     let mut low: u64 = 0;

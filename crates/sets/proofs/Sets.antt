@@ -18,7 +18,7 @@ use Rattle.image.specs.Ready.{Ready}
 use Rattle.image.proofs.Lengths.{len-pos, len-difference}
 use Rattle.limits.specs.Most.{mostPassing}
 use Rattle.limits.proofs.Limits.{squared, passes-up-to, most-le}
-use Rattle.sets.specs.Words.{wordsFrom, Near, qOf, distance, height}
+use Rattle.sets.specs.Words.{wordsFrom, Close, qOf, distance, height}
 
 -- q, from the differences
 pub q-from-is : (l : List ℕ) (m dx dy : ℕ) → dx ≡ natAbs (len (getD l (m + 3) 0) -ℤ len (getD l m 0)) → dy ≡ natAbs (len (getD l (m + 4) 0) -ℤ len (getD l (m + 1) 0))
@@ -44,7 +44,7 @@ module _ (t l : List ℕ) (r : Ready t l) (i j : ℕ) (lo : 1 ≤ i) (hi : i ≤
   unfolding inOrder
   at-two = r .reads (((i - 1) * SETS + (j - 1)) * POINTS + 1) (omega arith) ∙ ap (tripleAt l) (omega arith)
 
-  pub bounds : (a : ℕ) → a < 3 → Near l m a
+  pub bounds : (a : ℕ) → a < 3 → Close l m a
   bounds a h =
       let p = ((i - 1) * SETS + (j - 1)) * POINTS in
       let e₁ : p * 3 + a ≡ m + a = omega arith in

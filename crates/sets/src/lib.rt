@@ -8,7 +8,7 @@ ghost use Rattle.image.specs.Lengths.{termsOf};
 ghost use Rattle.image.specs.Places.{placesOf};
 ghost use Rattle.image.specs.Ready.{Ready};
 ghost use Rattle.limits.specs.Most.{mostPassing};
-ghost use Rattle.sets.specs.Words.{wordsFrom, Near, qOf, distance, height};
+ghost use Rattle.sets.specs.Words.{wordsFrom, Close, qOf, distance, height};
 use image::Layout;
 use image::ORIGIN;
 use image::Term;
@@ -24,7 +24,7 @@ fn words_from(series: usize, set: usize) -> usize
 
 // q of the set whose words start at m.
 fn q_from(cells: &[u64; Layout::CELLS], m: usize) -> u64
-    requires { ⌜ (m + 5 < CELL-WORDS) × Near (now cells) m 0 × Near (now cells) m 1 ⌝ }
+    requires { ⌜ (m + 5 < CELL-WORDS) × Close (now cells) m 0 × Close (now cells) m 1 ⌝ }
     ensures { λ r. ⌜ r ≡ qOf (now (cells .entry)) m ⌝ }
 {
     let dx = limits::apart(cells[m + 3], cells[m]);

@@ -13,7 +13,7 @@ use procedure::Procedure;
 use procedure::Refusal;
 
 // Whether a number is that of a book.
-pub fn is_book(book: u64) -> bool
+fn is_book(book: u64) -> bool
     ensures { λ r. ⌜ r ≡ oneTo BOOKS book ⌝ }
 {
     procedure::one_to(Procedure::BOOKS as u64, book)

@@ -9,28 +9,27 @@ use lib.IntN.{ℤ, pos, _-ℤ_, subℕ}
 use Rattle.integers.specs.Nats.{two-sq}
 use Rattle.integers.specs.Sigma.{ΣN, ΣN-next, Res, Σ-cong, Res-raised}
 use Rattle.paper.specs.Procedure.{POINTS, ROUNDS, PLACES, NEARBY}
-use Rattle.paper.specs.Units.{Terms, Places, pointOf}
+use Rattle.paper.specs.Units.{Terms, Places, pointOf, placeAt}
 use Rattle.paper.specs.Figures.{Axis, x-axis, y-axis, h-axis, Q, S, offset, both, P, residual15}
+use Rattle.paper.proofs.Places.{number-back}
 use Rattle.paper.proofs.Agreement.{Q-of-raised}
 use Rattle.image.specs.Lengths.{termsOf}
 use Rattle.image.specs.Places.{placesOf, axisOf}
 use Rattle.image.specs.Ready.{Ready}
 use Rattle.image.proofs.Ready.{raised-offset}
 use Rattle.sums.specs.declared.Totals.{Totals}
-use Rattle.sums.specs.Sums.{raisedOf, totalsOf}
-use Rattle.sums.specs.Places.{placeAt}
-use Rattle.sums.proofs.Places.{number-back}
+use Rattle.sums.specs.Sums.{RAISED, raisedOf, totalsOf}
 
 -- s (A − s) is at most a quarter of A²
 quarter : (s d : ℕ) → 4 * (s * d) ≤ (s + d) * (s + d)
 quarter s d = omega (arith, two-sq s d)
 
-pub most : (s q : ℕ) → q ≤ 2 * NEARBY * s → s ≤ 3000000 → ROUNDS * q - s * s ≤ 2250000000000
+pub most : (s q : ℕ) → q ≤ 2 * NEARBY * s → s ≤ RAISED → 4 * (ROUNDS * q - s * s) ≤ RAISED * RAISED
 most s q h k =
-    let d = 3000000 - s in
-    let e : s + d ≡ 3000000 = omega arith in
-    let g : 4 * (s * d) ≤ 3000000 * 3000000 = subst (λ (m : ℕ). 4 * (s * d) ≤ m * m) e (quarter s d) in
-    let i : s * (s + d) ≡ s * 3000000 = ap (λ (m : ℕ). s * m) e in
+    let d = RAISED - s in
+    let e : s + d ≡ RAISED = omega arith in
+    let g : 4 * (s * d) ≤ RAISED * RAISED = subst (λ (m : ℕ). 4 * (s * d) ≤ m * m) e (quarter s d) in
+    let i : s * (s + d) ≡ s * RAISED = ap (λ (m : ℕ). s * m) e in
     omega arith
 
 pub sq-step : (u : ℕ) → u ≤ 2 * NEARBY → u * u ≤ 2 * NEARBY * u

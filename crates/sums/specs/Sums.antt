@@ -10,6 +10,10 @@ use Rattle.image.specs.Ready.{raised}
 use Rattle.sums.specs.declared.Added.{Added}
 use Rattle.sums.specs.declared.Totals.{Totals}
 
+-- the greatest sum of fifteen raised offsets
+abbrev pub RAISED : ℕ
+RAISED = ROUNDS * (2 * NEARBY)
+
 -- the raised offsets of point k and axis a (0 x, 1 y, 2 h), in the order of the sheet
 abbrev pub raisedOf : List ℕ → List ℕ → ℕ → ℕ → ℕ → ℕ
 raisedOf t l k a = raised t l ((k - 1) * 3 + a)
@@ -18,7 +22,7 @@ raisedOf t l k a = raised t l ((k - 1) * 3 + a)
 pub record Adds (t l : List ℕ) (k a : ℕ) (r : Added) : Type 0 where
   pub s : r .s ≡ ΣN ROUNDS (raisedOf t l k a)
   pub q : r .q ≡ ΣN ROUNDS (λ (i : ℕ). raisedOf t l k a i * raisedOf t l k a i)
-  pub s-most : r .s ≤ 3000000
+  pub s-most : r .s ≤ RAISED
   pub q-most : r .q ≤ 2 * NEARBY * r .s
 
 -- the four sums of the paper
@@ -27,7 +31,7 @@ totalsOf t l = record { qx = Qx t l; qy = Qy t l; p = P t l; qh = Qh t l }
 
 -- how great they are at most: 1,048,576 times as much fits a word
 abbrev pub Modest : ℕ → Type 0
-Modest sum = sum ≤ 9000000000000
+Modest sum = sum ≤ RAISED * RAISED
 
 pub record AllModest (s : Totals) : Type 0 where
   pub qx : Modest (s .qx)

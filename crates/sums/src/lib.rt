@@ -2,12 +2,12 @@
 ghost use mathlib.Core.Path.{_≡_};
 ghost use Prim.Native.Nat.{_*_, _≤_, _<_};
 ghost use Rattle.paper.specs.Procedure.{POINTS, ROUNDS, PLACES, NEARBY};
+ghost use Rattle.paper.specs.Units.{placeAt};
 ghost use Rattle.paper.specs.Figures.{Q, both, residual15};
 ghost use Rattle.image.specs.Lengths.{termsOf};
 ghost use Rattle.image.specs.Places.{placesOf, axisOf};
 ghost use Rattle.image.specs.Ready.{Ready};
-ghost use Rattle.sums.specs.Sums.{raisedOf, Adds, totalsOf, AllModest};
-ghost use Rattle.sums.specs.Places.{placeAt};
+ghost use Rattle.sums.specs.Sums.{RAISED, raisedOf, Adds, totalsOf, AllModest};
 use image::Layout;
 use image::Term;
 use procedure::Procedure;
@@ -58,14 +58,14 @@ fn added_up(
 }
 
 // Q of a point and an axis.
-fn spread(
+fn q_of(
     terms: &[u64; Layout::TERMS],
     cells: &[u64; Layout::CELLS],
     point: usize,
     axis: usize,
 ) -> u64
     requires { ⌜ (1 ≤ point) × (point ≤ POINTS) × (axis < 3) × Ready (now terms) (now cells) ⌝ }
-    ensures { λ r. ⌜ (r ≡ Q (termsOf (now (terms .entry))) (placesOf (now (cells .entry))) (axisOf axis) point) × (r ≤ 2250000000000) ⌝ }
+    ensures { λ r. ⌜ (r ≡ Q (termsOf (now (terms .entry))) (placesOf (now (cells .entry))) (axisOf axis) point) × (4 * r ≤ RAISED * RAISED) ⌝ }
 {
     let sums = added_up(terms, cells, point, axis);
     Procedure::ROUNDS as u64 * sums.q - sums.s * sums.s
@@ -92,8 +92,8 @@ fn both(terms: &[u64; Layout::TERMS], cells: &[u64; Layout::CELLS], axis: usize)
     requires { ⌜ (axis < 3) × Ready (now terms) (now cells) ⌝ }
     ensures { λ r. ⌜ (r ≡ both (termsOf (now (terms .entry))) (placesOf (now (cells .entry))) (axisOf axis)) × (r ≤ 4500000000000) ⌝ }
 {
-    let first = spread(terms, cells, 1, axis);
-    let second = spread(terms, cells, 2, axis);
+    let first = q_of(terms, cells, 1, axis);
+    let second = q_of(terms, cells, 2, axis);
     first + second
 }
 

@@ -7,40 +7,41 @@ use native.Mathlib.Omega.{arith}
 use borrow.Author.Tests.{le-leb, lt-leb}
 use lib.ListN.{length, drop}
 use lib.IntN.{ℤ, pos, negsuc}
+use Rattle.paper.specs.Procedure.{IN-SERIES}
 use Rattle.image.specs.Lengths.{ORIGIN, word}
 use Rattle.decimals.specs.Reader.{Parsed, got, bad, fixed}
 use Rattle.decimals.specs.Given.{Got, Nothing}
 use Rattle.decimals.proofs.Steps.{then-got, then-bad}
 use Rattle.fieldfile.specs.Form.{CONTENTS, TERMS, SERIES1, SERIES2, SERIES3}
-use Rattle.fieldfile.specs.Reader.{upTo10, count, table}
+use Rattle.fieldfile.specs.Reader.{lineCount, count, table}
 use Rattle.table.specs.Given.{Count, Tabled}
 use Rattle.table.specs.declared.Counts.the-variants.{Of, Bad}
 
 -- ---- counts
 
 module _ (v : ℤ) (z : ℕ) (r : List ℕ) (e : z ≡ word v) where
-  pub count-low : z < ORIGIN → upTo10 v r ≡ bad
-  unfolding upTo10 word
+  pub count-low : z < ORIGIN → lineCount v r ≡ bad
+  unfolding lineCount word
   count-low = go v e
     where
-      go : (v : ℤ) → z ≡ word v → z < ORIGIN → upTo10 v r ≡ bad
+      go : (v : ℤ) → z ≡ word v → z < ORIGIN → lineCount v r ≡ bad
       go (pos n) e h = absurd (omega arith)
       go (negsuc n) e h = refl
 
-  pub count-high : ORIGIN + 10 < z → upTo10 v r ≡ bad
-  unfolding upTo10 word
+  pub count-high : ORIGIN + IN-SERIES < z → lineCount v r ≡ bad
+  unfolding lineCount word
   count-high = go v e
     where
-      go : (v : ℤ) → z ≡ word v → ORIGIN + 10 < z → upTo10 v r ≡ bad
-      go (pos n) e h = rw (lt-leb n 10 (omega arith))
+      go : (v : ℤ) → z ≡ word v → ORIGIN + IN-SERIES < z → lineCount v r ≡ bad
+      go (pos n) e h = rw (lt-leb n IN-SERIES (omega arith))
       go (negsuc n) e h = refl
 
-  pub count-is : ORIGIN ≤ z → z ≤ ORIGIN + 10 → upTo10 v r ≡ got (z - ORIGIN) r
-  unfolding upTo10 word
+  pub count-is : ORIGIN ≤ z → z ≤ ORIGIN + IN-SERIES → lineCount v r ≡ got (z - ORIGIN) r
+  unfolding lineCount word
   count-is = go v e
     where
-      go : (v : ℤ) → z ≡ word v → ORIGIN ≤ z → z ≤ ORIGIN + 10 → upTo10 v r ≡ got (z - ORIGIN) r
-      go (pos n) e h k = let f : z - ORIGIN ≡ n = omega arith in rw (f, le-leb n 10 (omega arith))
+      go : (v : ℤ) → z ≡ word v → ORIGIN ≤ z → z ≤ ORIGIN + IN-SERIES → lineCount v r ≡ got (z - ORIGIN) r
+      go (pos n) e h k = let f : z - ORIGIN ≡ n = omega arith in rw (f, le-leb n IN-SERIES (omega arith))
       go (negsuc n) e h k = absurd (omega arith)
 
 -- ---- the table of contents

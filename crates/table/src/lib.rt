@@ -6,20 +6,21 @@ ghost use Rattle.fieldfile.specs.Reader.{count, table};
 ghost use Rattle.table.specs.Given.{Count, Tabled};
 use decimals::Read;
 use image::ORIGIN;
+use procedure::Procedure;
 
-// The word of 10, the most lines of a body.
-const TEN: u64 = ORIGIN + 10;
+// The word of the most lines of a body.
+const MOST: u64 = ORIGIN + Procedure::IN_SERIES as u64;
 
-// The fixed strings of a file, for whoever reads or writes one.
-pub const CONTENTS: [u8; 11] = *b"CONTENTS 4\n";
+// The fixed strings of a file.
+const CONTENTS: [u8; 11] = *b"CONTENTS 4\n";
 
-pub const TERMS: [u8; 8] = *b"TERMS 1\n";
+const TERMS: [u8; 8] = *b"TERMS 1\n";
 
-pub const SERIES1: [u8; 8] = *b"SERIES1 ";
+const SERIES1: [u8; 8] = *b"SERIES1 ";
 
-pub const SERIES2: [u8; 8] = *b"SERIES2 ";
+const SERIES2: [u8; 8] = *b"SERIES2 ";
 
-pub const SERIES3: [u8; 8] = *b"SERIES3 ";
+const SERIES3: [u8; 8] = *b"SERIES3 ";
 
 // The three counts of the table of contents, and the place after it.
 pub enum Counts {
@@ -41,7 +42,7 @@ fn count_at(s: &[u8], at: usize, name: &[u8]) -> Read
     if z < ORIGIN {
         return Read::Bad;
     }
-    if TEN < z {
+    if MOST < z {
         return Read::Bad;
     }
     Read::At(z - ORIGIN, next)

@@ -1,8 +1,9 @@
 -- Document 01, "The field file": what the program prints of two verdicts.
 use Prim.Native.Nat.{ℕ}
-use mathlib.Core.Bool.{cond, _&&_}
+use mathlib.Core.Bool.{cond}
 use mathlib.Core.List.{List, [], _∷_, _++_}
 use lib.IntN.{pos}
+use Rattle.paper.specs.Verdicts.{bothWithin}
 use Rattle.paper.specs.declared.Judged.{Judged}
 use Rattle.decimals.specs.Ascii.{ascii}
 use Rattle.decimals.specs.Numbers.{line}
@@ -31,4 +32,4 @@ axisLine axis j = axis ++ cond (j .within) WITHIN BEYOND ++ line (pos (j .m) ∷
 
 -- for xy and h in turn; then PASS if both are within, else FAIL
 unfoldable pub verdictText : Judged → Judged → List ℕ
-verdictText xy h = axisLine XY xy ++ axisLine H h ++ cond (xy .within && h .within) PASS FAIL
+verdictText xy h = axisLine XY xy ++ axisLine H h ++ cond (bothWithin xy h) PASS FAIL

@@ -31,9 +31,9 @@ fn the_library_answers_as_the_second_implementation() {
     let tally = told(run_on_two(SEED, GATE));
     show("library", &tally);
     must_have_tried_all(&tally);
-    assert!(tally.calls() >= 200_000);
-    assert!(tally.files() >= 50_000);
-    assert!(tally.damaged >= 50_000);
+    assert!(tally.calls() >= 1_000_000);
+    assert!(tally.files() >= 100_000);
+    assert!(tally.damaged >= 100_000);
 }
 
 #[test]

@@ -31,6 +31,11 @@
 //!
 //! Lengths are whole numbers of 0.1 mm, figures are millimetres. [`boundary`] has the calls as
 //! plain numbers and slices, [`sys`] their C declarations.
+//!
+//! # Panics
+//!
+//! No call panics, whatever it is given, unless a library of another version is linked, with a
+//! refusal that this crate has no name for.
 
 mod answers;
 #[allow(unsafe_code)]

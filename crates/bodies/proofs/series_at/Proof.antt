@@ -2,8 +2,8 @@
 -- Assumes nothing.
 use Prim.Native.Nat.{_-_}
 use borrow.Author.Needs.{needs}
+use Rattle.paper.specs.Procedure.{IN-SERIES}
 use Rattle.decimals.proofs.Steps.{not-at}
-use Rattle.fieldfile.specs.Reader.{IN-SERIES}
 use Rattle.bodies.proofs.Steps.{Going, going-none, going-on, going-bad, going-all, going-more}
 use Rattle.bodies.proofs.series_at.Statement.{statement}
 use Rattle.bodies.proofs.series_at.Tie as tie

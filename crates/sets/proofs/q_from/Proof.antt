@@ -4,6 +4,7 @@ use native.Mathlib.Omega.{arith}
 use mathlib.Core.Path.{_≡_}
 use borrow.Author.Needs.{needs}
 use Rattle.limits.proofs.Limits.{squared}
+use Rattle.sets.specs.Words.{APART}
 use Rattle.sets.proofs.Sets.{q-from-is}
 use Rattle.sets.proofs.q_from.Statement.{statement}
 use Rattle.sets.proofs.q_from.Tie as tie
@@ -13,13 +14,13 @@ module _ (c : tie.After-apart2) where
   abbrev start : tie.Start
   start = search
 
-  dx-le : c .before .before .before .apart .result ≤ 700000
+  dx-le : c .before .before .before .apart .result ≤ APART
   dx-le =
       let e : start .args .m + 0 ≡ start .args .m = omega arith in
       let n = rw e at (start .pre .1) in
       omega (arith, n, c .before .before .before .apart .ensures .1)
 
-  dy-le : c .apart2 .result ≤ 700000
+  dy-le : c .apart2 .result ≤ APART
   dy-le = omega (arith, start .pre .2, c .apart2 .ensures .1)
 
 add-apart : tie.Need-add-apart

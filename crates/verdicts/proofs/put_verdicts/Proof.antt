@@ -3,20 +3,16 @@
 use Prim.Native.Nat.{ℕ}
 use borrow.Author.Needs.{needs}
 use mathlib.Core.Path.{_∙_}
-use mathlib.Core.Bool.{cond, _&&_}
 use mathlib.Core.List.{List}
 use Rattle.paper.specs.declared.Judged.{Judged}
 use Rattle.decimals.specs.Ascii.{ascii}
-use Rattle.verdicts.specs.Text.{XY, PASS, FAIL, axisLine, verdictText}
+use Rattle.verdicts.specs.Text.{XY, axisLine, verdictText}
 use Rattle.verdicts.proofs.Pieces.{first-fits, second-fits, two-fit, third-fits, all-three, starts}
 use Rattle.verdicts.proofs.put_verdicts.Statement.{statement}
 use Rattle.verdicts.proofs.put_verdicts.Tie as tie
 
 abbrev lineXY : Judged → List ℕ
 lineXY j = axisLine XY j
-
-abbrev last : Judged → Judged → List ℕ
-last xy h = cond (xy .within && h .within) PASS FAIL
 
 slice-aggregate-put-axis : tie.Need-slice-aggregate-put-axis
 slice-aggregate-put-axis c = search needs

@@ -32,9 +32,16 @@ fn main() {
     for case in [
         check(&register),
         read(&register),
+        changes(&register),
+        residual(&register),
         evaluate(&register),
+        compare(&register),
         pass_list(&register),
         file(),
+        fresh(&register),
+        strike_and_open(&register),
+        withdraw_and_enter(&register),
+        take_back_and_correct(&register),
     ] {
         let (name, turns) = (case.name, case.turns);
         tell_turn(name, turns, &timed(case));
@@ -154,6 +161,122 @@ fn read(register: &[u8]) -> Case {
             let ([a, b, c], _) = correction(turn);
             let read = written_again::read(black_box(&theirs), book_of(turn), a, b, c);
             assert_eq!(black_box(read).refusal, 0);
+        }),
+    }
+}
+
+fn changes(register: &[u8]) -> Case {
+    let (ours, theirs) = (register.to_vec(), register.to_vec());
+    Case {
+        name: "how many can be taken back",
+        turns: 5_000,
+        library: Box::new(move |turn| {
+            let count = boundary::changes(black_box(&ours), book_of(turn));
+            assert_eq!(black_box(count).refusal, 0);
+        }),
+        second: Box::new(move |turn| {
+            let count = written_again::changes(black_box(&theirs), book_of(turn));
+            assert_eq!(black_box(count).refusal, 0);
+        }),
+    }
+}
+
+fn residual(register: &[u8]) -> Case {
+    let (ours, theirs) = (register.to_vec(), register.to_vec());
+    Case {
+        name: "residual",
+        turns: 5_000,
+        library: Box::new(move |turn| {
+            let (place, _) = correction(turn);
+            let residual = boundary::residual(black_box(&ours), book_of(turn), place);
+            assert_eq!(black_box(residual).refusal, 0);
+        }),
+        second: Box::new(move |turn| {
+            let ([a, b, c], _) = correction(turn);
+            let residual = written_again::residual(black_box(&theirs), book_of(turn), a, b, c);
+            assert_eq!(black_box(residual).refusal, 0);
+        }),
+    }
+}
+
+fn compare(register: &[u8]) -> Case {
+    let (ours, theirs) = (register.to_vec(), register.to_vec());
+    Case {
+        name: "compare",
+        turns: 5_000,
+        library: Box::new(move |turn| {
+            let (first, second, axis) = (book_of(turn), book_of(turn + 1), turn % 2 + 1);
+            let comparison = boundary::compare(black_box(&ours), first, second, axis);
+            assert_eq!(black_box(comparison).refusal, 0);
+        }),
+        second: Box::new(move |turn| {
+            let (first, second, axis) = (book_of(turn), book_of(turn + 1), turn % 2 + 1);
+            let comparison = written_again::compare(black_box(&theirs), first, second, axis);
+            assert_eq!(black_box(comparison).refusal, 0);
+        }),
+    }
+}
+
+fn fresh(register: &[u8]) -> Case {
+    let (mut ours, mut theirs) = (register.to_vec(), register.to_vec());
+    Case {
+        name: "a fresh register",
+        turns: 10_000,
+        library: Box::new(move |_| assert_eq!(boundary::fresh(black_box(&mut ours)), 0)),
+        second: Box::new(move |_| assert_eq!(written_again::fresh(black_box(&mut theirs)), 0)),
+    }
+}
+
+fn strike_and_open(register: &[u8]) -> Case {
+    let (mut ours, mut theirs) = (register.to_vec(), register.to_vec());
+    Case {
+        name: "strike a book, then open it",
+        turns: 2_000,
+        library: Box::new(move |_| {
+            assert_eq!(boundary::strike(&mut ours, 1), 0);
+            assert_eq!(boundary::open(&mut ours, 1, TERMS), 0);
+        }),
+        second: Box::new(move |_| {
+            assert_eq!(written_again::strike(&mut theirs, 1), 0);
+            assert_eq!(written_again::open(&mut theirs, 1, TERMS), 0);
+        }),
+    }
+}
+
+fn withdraw_and_enter(register: &[u8]) -> Case {
+    let (mut ours, mut theirs) = (register.to_vec(), register.to_vec());
+    Case {
+        name: "withdraw, then enter",
+        turns: 2_000,
+        library: Box::new(move |turn| {
+            let (book, (place, reading)) = (book_of(turn), correction(turn));
+            assert_eq!(boundary::withdraw(&mut ours, book, place), 0);
+            assert_eq!(boundary::enter(&mut ours, book, place, reading), 0);
+        }),
+        second: Box::new(move |turn| {
+            let (book, ([a, b, c], [x, y, h])) = (book_of(turn), correction(turn));
+            assert_eq!(written_again::withdraw(&mut theirs, book, a, b, c), 0);
+            let refusal = written_again::enter(&mut theirs, book, a, b, c, x, y, h);
+            assert_eq!(refusal, 0);
+        }),
+    }
+}
+
+fn take_back_and_correct(register: &[u8]) -> Case {
+    let (mut ours, mut theirs) = (register.to_vec(), register.to_vec());
+    Case {
+        name: "take back, then correct",
+        turns: 2_000,
+        library: Box::new(move |turn| {
+            let (book, (place, reading)) = (book_of(turn), correction(turn));
+            assert_eq!(boundary::take_back(&mut ours, book), 0);
+            assert_eq!(boundary::correct(&mut ours, book, place, reading), 0);
+        }),
+        second: Box::new(move |turn| {
+            let (book, ([a, b, c], [x, y, h])) = (book_of(turn), correction(turn));
+            assert_eq!(written_again::take_back(&mut theirs, book), 0);
+            let refusal = written_again::correct(&mut theirs, book, a, b, c, x, y, h);
+            assert_eq!(refusal, 0);
         }),
     }
 }

@@ -41,7 +41,7 @@ fn main() -> io::Result<()> {
         ),
         ("One for each refusal", refused::each_number()),
         ("Suspect sets", refused::suspects()),
-        ("The lowest number is given", refused::lowest_number_first()),
+        ("Where several refusals apply", refused::in_order()),
         ("Edges: bytes and lines' ends", refused::edges_of_bytes()),
         ("Edges: numbers", refused::edges_of_numbers()),
         ("Edges: lines and counts", refused::edges_of_lines()),

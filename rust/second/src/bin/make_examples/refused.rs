@@ -88,7 +88,7 @@ pub fn suspects() -> Vec<Example> {
     ]
 }
 
-pub fn lowest_number_first() -> Vec<Example> {
+pub fn in_order() -> Vec<Example> {
     let suspect = FieldSheet::still().moved(1, 1, 1, [0, 0, 884]);
     let short = suspect.without(3, 5, 2);
     let far = short.clone().moved(3, 5, 1, [0, -100_001, 0]);

@@ -1,4 +1,4 @@
--- `listing::clear`: the bytes before i are 0.
+-- `register::clear`: the bytes before i are 0.
 -- Assumes nothing.
 use borrow.Author.Needs.{needs}
 use Prim.Native.Nat.{_≤_, _<_, _-_}
@@ -7,9 +7,9 @@ use mathlib.Core.Path.{_≡_, refl}
 use mathlib.Core.List.{_++_}
 use lib.ListN.{length, drop, replicate, length-set}
 use borrow.Author.Fill.{fill-more}
-use Rattle.listing.proofs.Turns.{cleared-all}
-use Rattle.listing.proofs.clear.Statement.{statement}
-use Rattle.listing.proofs.clear.Tie as tie
+use Rattle.register.proofs.Ways.{cleared-all}
+use Rattle.register.proofs.clear.Statement.{statement}
+use Rattle.register.proofs.clear.Tie as tie
 
 abbrev Inv-loop : tie.InvT-loop
 Inv-loop bytes₀ i₀ bytes i =

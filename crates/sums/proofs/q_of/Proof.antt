@@ -1,12 +1,12 @@
--- `sums::spread` meets its contract. Assumes nothing.
+-- `sums::q_of` meets its contract. Assumes nothing.
 use native.Mathlib.Omega.{arith}
 use native.Mathlib.Nat.{mul-le-mul}
 use borrow.Author.Needs.{needs}
 use Rattle.integers.specs.Sigma.{Q-raised-le}
 use Rattle.paper.specs.Procedure.{ROUNDS}
 use Rattle.sums.proofs.Laws.{most, Q-words}
-use Rattle.sums.proofs.spread.Statement.{statement}
-use Rattle.sums.proofs.spread.Tie as tie
+use Rattle.sums.proofs.q_of.Statement.{statement}
+use Rattle.sums.proofs.q_of.Tie as tie
 
 added-up-requires : tie.Need-added-up-requires
 added-up-requires c κs = search needs
@@ -32,5 +32,5 @@ returns c =
       most _ _ (e .q-most) (e .s-most),
     )
 
-pub spread-spec : {M : Type 1} → statement M
-spread-spec = tie.close (tie.spec added-up-requires mul-result mul-result-2 sub-result returns)
+pub q-of-spec : {M : Type 1} → statement M
+q-of-spec = tie.close (tie.spec added-up-requires mul-result mul-result-2 sub-result returns)
