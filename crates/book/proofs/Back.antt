@@ -2,7 +2,7 @@
 -- Assumes nothing.
 use Prim.Native.Nat.{ℕ, _+_, _*_, _-_, _<_}
 use native.Mathlib.Omega.{arith}
-use mathlib.Core.Path.{_≡_, sym, _∙_, subst}
+use mathlib.Core.Path.{_≡_, refl, sym, _∙_, subst}
 use mathlib.Core.Bool.{true}
 use mathlib.Core.List.{List, _∷_}
 use lib.ListN.{length, getD, drop, length-drop}
@@ -11,7 +11,7 @@ use borrow.Author.Tests.{ne-eqb}
 use Rattle.paper.specs.Procedure.{PLACES, KEPT}
 use Rattle.paper.specs.Books as paper
 use Rattle.paper.specs.Calls.{takeBack, undoes, effect, affected}
-use Rattle.paper.specs.Refusals.{CLOSED, NOTHING}
+use Rattle.paper.specs.Refusals.{NOTHING}
 use Rattle.paper.specs.TurnedAway.{nothingKept, lowest, rules}
 use Rattle.paper.proofs.Form.{parts, AllFit}
 use Rattle.image.specs.Places.{spotAt, placesOf}
@@ -21,19 +21,19 @@ use Rattle.image.proofs.Places.{length-places, cells-set, words-spot}
 use Rattle.image.proofs.Changes.{length-entries, entries-cons, changes-entries, changes-pop}
 use Rattle.changes.specs.Kept.{popped}
 use Rattle.book.specs.declared.Book.{Book}
-use Rattle.book.specs.Meaning.{bookOf, openOf, meant, bookForm}
-use Rattle.book.specs.Steps.{step, stepOf, undoneOf}
-use Rattle.book.proofs.Meaning.{Sized, book-parts, Sound, form-sound, meant-closed, meant-open}
+use Rattle.book.specs.Meaning.{bookOf, openOf, meant}
+use Rattle.book.specs.Steps.{step, stepOf, metOf, undoneOf}
+use Rattle.book.proofs.Meaning.{Sized, book-parts, Sound, form-sound, meant-open}
 use Rattle.book.proofs.Steps.{step-refused, step-done, cell-words, kept-count}
+use Rattle.book.proofs.Opened.{Opened, met-refused}
 
--- of a closed book there is nothing to take back
-pub back-closed : (b : Book) → Sized b → bookForm b ≡ true → b .opened ≡ 0 → step CLOSED b ≡ stepOf takeBack b
-unfolding rules lowest
-back-closed b s e z = step-refused b takeBack _ s e (rw (meant-closed b z))
+pub back-refused : (b : Book) → Sized b → (n : ℕ) → n ≡ metOf b → (n ≡ 0 → ⊥) → step n b ≡ stepOf takeBack b
+unfolding rules
+back-refused b s = met-refused b takeBack _ s refl
 
-module _ (b : Book) (s : Sized b) (e : bookForm b ≡ true) (f : b .opened ≡ 0 → ⊥) where
+module _ (b : Book) (s : Sized b) (o : Opened b) where
   sound-b : Sound b
-  sound-b = form-sound b e f
+  sound-b = form-sound b (o .form) (o .opened)
 
   last : paper.Change
   last = change (getD (b .changes) 0 0) (spotAt (b .changes) 1)
@@ -51,7 +51,7 @@ module _ (b : Book) (s : Sized b) (e : bookForm b ≡ true) (f : b .opened ≡ 0
 
   pub step-nothing : b .kept ≡ 0 → step NOTHING b ≡ stepOf takeBack b
   unfolding lowest rules nothingKept paper.sight
-  step-nothing z = step-refused b takeBack _ s e (rw (meant-open b f, kept-count b s sound-b, z))
+  step-nothing z = step-refused b takeBack _ s (o .form) (rw (meant-open b (o .opened), kept-count b s sound-b, z))
 
   rest-words : 0 < b .kept → changesOf (KEPT - 1) older ≡ drop 4 (b .changes)
   unfolding older
@@ -70,7 +70,7 @@ module _ (b : Book) (s : Sized b) (e : bookForm b ≡ true) (f : b .opened ≡ 0
   undone-is : 0 < b .kept → undoneOf b ≡ bookOf (affected undoes (meant b))
   unfolding undoneOf bookOf affected paper.undone paper.make openOf popped last
   undone-is z =
-      rw (meant-open b f, kept-is z)
+      rw (meant-open b (o .opened), kept-is z)
       (book-parts _ _ _ _ _ _ _ _ _ _ (sound-b .opened)
       (sym (words-terms (b .terms) (s .terms)))
       (sym (cells-set (placesOf (b .cells)) (getD (b .changes) 0 0) (spotAt (b .changes) 1) (rw (length-places (b .cells)) (back-small z)) ∙ rw (cell-words b s sound-b, words-spot (getD (b .changes) 1 0) (getD (b .changes) 2 0) (getD (b .changes) 3 0))))
@@ -79,4 +79,4 @@ module _ (b : Book) (s : Sized b) (e : bookForm b ≡ true) (f : b .opened ≡ 0
 
   pub step-undone : 0 < b .kept → step 0 (undoneOf b) ≡ stepOf takeBack b
   unfolding lowest rules nothingKept paper.sight effect
-  step-undone z = step-done b takeBack (undoneOf b) e (rw (meant-open b f, kept-count b s sound-b, ne-eqb (b .kept) 0 (λ h. omega arith))) (undone-is z)
+  step-undone z = step-done b takeBack (undoneOf b) (o .form) (rw (meant-open b (o .opened), kept-count b s sound-b, ne-eqb (b .kept) 0 (λ h. omega arith))) (undone-is z)

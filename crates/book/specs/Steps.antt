@@ -33,7 +33,11 @@ stepOf a b = step (refusedAlone a (seen b)) (wordsOr b (next a (seen b)))
 
 -- ---- steps of the code
 
--- REGISTER, PLACE or CLOSED; or the number of a place of an open book
+-- what a call on an open book meets: REGISTER or CLOSED; 0 where the book is in form and open
+unfoldable pub metOf : Book → ℕ
+metOf b = cond (bookForm b) (cond (eqb (b .opened) 0) CLOSED 0) REGISTER
+
+-- the same of a call on a place, with PLACE between the two; or the number of the place
 abbrev pub aim : ℕ → ℕ → Aim
 aim n p = record { refusal = n; place = p }
 

@@ -8,7 +8,7 @@ ghost use Rattle.paper.specs.Procedure.{PLACES};
 ghost use Rattle.paper.specs.Calls.{enter, correct, withdraw, takeBack};
 ghost use Rattle.image.specs.Lengths.{wordOr};
 ghost use Rattle.book.specs.Meaning.{bookOf, bookForm};
-ghost use Rattle.book.specs.Steps.{stepOf, aimOf, soughtOf, changedOf, undoneOf, placedOf, filledOf};
+ghost use Rattle.book.specs.Steps.{stepOf, metOf, aimOf, soughtOf, changedOf, undoneOf, placedOf, filledOf};
 use image::Layout;
 use procedure::Procedure;
 use procedure::Refusal;
@@ -52,6 +52,21 @@ pub fn in_form(b: Book) -> bool
     ensures { λ r. ⌜ r ≡ bookForm b ⌝ }
 {
     form::in_form(b.opened, &b.terms, &b.cells, b.kept, &b.changes)
+}
+
+impl Book {
+    // What a call on an open book meets: REGISTER or CLOSED; 0 where the book is in form and open.
+    pub fn met(self) -> u64
+        ensures { λ r. ⌜ r ≡ metOf self ⌝ }
+    {
+        if in_form(self) {
+            if self.opened == 0 {
+                return Refusal::CLOSED;
+            }
+            return 0;
+        }
+        Refusal::REGISTER
+    }
 }
 
 // ---- one change
@@ -224,27 +239,22 @@ impl Book {
     pub fn take_back(self) -> Step
         ensures { λ r. ⌜ r ≡ stepOf takeBack self ⌝ }
     {
-        if in_form(self) {
-            if self.opened == 0 {
-                return Step {
-                    refusal: Refusal::CLOSED,
-                    book: self,
-                };
-            }
-            if self.kept == 0 {
-                return Step {
-                    refusal: Refusal::NOTHING,
-                    book: self,
-                };
-            }
+        let met = self.met();
+        if met != 0 {
             return Step {
-                refusal: 0,
-                book: self.undone(),
+                refusal: met,
+                book: self,
+            };
+        }
+        if self.kept == 0 {
+            return Step {
+                refusal: Refusal::NOTHING,
+                book: self,
             };
         }
         Step {
-            refusal: Refusal::REGISTER,
-            book: self,
+            refusal: 0,
+            book: self.undone(),
         }
     }
 }

@@ -4,7 +4,7 @@ use Prim.Native.Nat.{ℕ}
 use mathlib.Core.Path.{_≡_, refl, sym, ap, _∙_}
 use mathlib.Core.Bool.{Bool, true, false}
 use mathlib.Core.Option.{none, some}
-use mathlib.Core.List.{List}
+use mathlib.Core.List.{List, []}
 use lib.ListN.{length, replicate}
 use lib.Dec.{eqb}
 use borrow.Author.Tests.{eqb-true, eqb-false}
@@ -12,7 +12,7 @@ use Rattle.paper.specs.Procedure.{PLACES, KEPT}
 use Rattle.paper.specs.Units.{Terms, inRange}
 use Rattle.paper.specs.Books as paper
 use Rattle.paper.specs.Calls.{begin, strike, effect, affected}
-use Rattle.paper.specs.Refusals.{OPEN, TERMS, CLOSED}
+use Rattle.paper.specs.Refusals.{OPEN, TERMS}
 use Rattle.paper.specs.TurnedAway.{lowest, rules}
 use Rattle.image.specs.Layout.{TERM-WORDS, CELL-WORDS}
 use Rattle.image.specs.Lengths.{termsOf, termWordsOr}
@@ -23,19 +23,20 @@ use Rattle.image.proofs.Bounds.{terms-short, range-given}
 use Rattle.book.specs.declared.Book.{Book}
 use Rattle.book.specs.declared.Step.{Step}
 use Rattle.book.specs.Meaning.{bookOf, bookForm}
-use Rattle.book.specs.Steps.{step, stepOf, filledOf}
+use Rattle.book.specs.Steps.{step, stepOf, metOf, filledOf}
 use Rattle.book.proofs.Meaning.{Sized, meant-closed, meant-open}
 use Rattle.book.proofs.Steps.{step-unformed, step-refused, step-done}
+use Rattle.book.proofs.Opened.{Opened, met-refused}
+
+pub strike-refused : (b : Book) → Sized b → (n : ℕ) → n ≡ metOf b → (n ≡ 0 → ⊥) → step n b ≡ stepOf strike b
+unfolding rules
+strike-refused b s = met-refused b strike [] s refl
+
+pub struck : (b b′ : Book) → Opened b → b′ ≡ bookOf none → step 0 b′ ≡ stepOf strike b
+unfolding rules lowest effect affected
+struck b b′ o w = step-done b strike b′ (o .form) (rw (meant-open b (o .opened))) w
 
 module _ (b : Book) (s : Sized b) (e : bookForm b ≡ true) where
-  pub strike-closed : b .opened ≡ 0 → step CLOSED b ≡ stepOf strike b
-  unfolding rules lowest
-  strike-closed z = step-refused b strike _ s e (rw (meant-closed b z))
-
-  pub struck : (b′ : Book) → (b .opened ≡ 0 → ⊥) → b′ ≡ bookOf none → step 0 b′ ≡ stepOf strike b
-  unfolding rules lowest effect affected
-  struck b′ f w = step-done b strike b′ e (rw (meant-open b f)) w
-
   module _ (t : Terms) where
     pub begin-open : (b .opened ≡ 0 → ⊥) → step OPEN b ≡ stepOf (begin t) b
     unfolding rules lowest

@@ -63,20 +63,15 @@ pub fn begin(
 pub fn strike(b: Book) -> Step
     ensures { λ r. ⌜ r ≡ stepOf strike b ⌝ }
 {
-    if book::in_form(b) {
-        if b.opened == 0 {
-            return Step {
-                refusal: Refusal::CLOSED,
-                book: b,
-            };
-        }
+    let met = b.met();
+    if met != 0 {
         return Step {
-            refusal: 0,
-            book: book::closed(),
+            refusal: met,
+            book: b,
         };
     }
     Step {
-        refusal: Refusal::REGISTER,
-        book: b,
+        refusal: 0,
+        book: book::closed(),
     }
 }

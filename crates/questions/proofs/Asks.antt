@@ -17,25 +17,28 @@ use Rattle.image.specs.Sights.{sightOf}
 use Rattle.book.specs.declared.Book.{Book}
 use Rattle.book.specs.declared.Aim.{Aim}
 use Rattle.book.specs.Meaning.{openOf, bookForm, seen}
-use Rattle.book.specs.Steps.{aimOf}
+use Rattle.book.specs.Steps.{metOf, aimOf}
 use Rattle.readings.specs.Answers.{lengthsBy, lengthsOf}
 use Rattle.book.proofs.Meaning.{meant-closed, meant-open, seen-in, seen-out}
 use Rattle.book.proofs.Sought.{On, aim-on}
 use Rattle.readings.proofs.Asks.{asked-refused}
 use Rattle.evaluation.specs.Evaluating.{answerTo, judgementOf, notJudged}
 use Rattle.evaluation.proofs.Asked.{evaluate-asked}
-use Rattle.book.proofs.Opened.{Opened, words-seen}
+use Rattle.book.proofs.Opened.{Opened, met-by, words-seen}
 
 -- ---- evaluation
 
 module _ (b : Book) where
-  pub judged-unformed : bookForm b ≡ false → notJudged REGISTER 0 0 0 ≡ judgementOf (askedAlone evaluate (seen b))
+  judged-unformed : bookForm b ≡ false → notJudged REGISTER 0 0 0 ≡ judgementOf (askedAlone evaluate (seen b))
   unfolding notJudged judgementOf askedAlone beside
   judged-unformed e = rw (seen-out b e)
 
-  pub judged-closed : bookForm b ≡ true → b .opened ≡ 0 → notJudged CLOSED 0 0 0 ≡ judgementOf (askedAlone evaluate (seen b))
+  judged-closed : bookForm b ≡ true → b .opened ≡ 0 → notJudged CLOSED 0 0 0 ≡ judgementOf (askedAlone evaluate (seen b))
   unfolding notJudged judgementOf askedAlone says lowest questioned evaluating beside
   judged-closed e z = rw (seen-in b e, meant-closed b z)
+
+  pub judged-refused : (n : ℕ) → n ≡ metOf b → (n ≡ 0 → ⊥) → notJudged n 0 0 0 ≡ judgementOf (askedAlone evaluate (seen b))
+  judged-refused = met-by b (λ n. notJudged n 0 0 0 ≡ judgementOf (askedAlone evaluate (seen b))) judged-unformed judged-closed
 
   pub judged-open : Opened b → judgementOf (answerTo (sightOf (b .terms) (b .cells))) ≡ judgementOf (askedAlone evaluate (seen b))
   unfolding askedAlone

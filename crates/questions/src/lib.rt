@@ -61,13 +61,11 @@ pub fn judge(b: Book) -> Judgement
 {
     let terms = b.terms;
     let cells = b.cells;
-    if book::in_form(b) {
-        if b.opened == 0 {
-            return evaluation::not_judged(Refusal::CLOSED, 0, 0, 0);
-        }
-        return evaluation::judged(&terms, &cells);
+    let met = b.met();
+    if met != 0 {
+        return evaluation::not_judged(met, 0, 0, 0);
     }
-    evaluation::not_judged(Refusal::REGISTER, 0, 0, 0)
+    evaluation::judged(&terms, &cells)
 }
 
 // The evaluation of a book, in millimetres.

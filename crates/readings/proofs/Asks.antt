@@ -26,9 +26,10 @@ use Rattle.image.proofs.Bounds.{spot-short, full-bound}
 use Rattle.book.specs.declared.Book.{Book}
 use Rattle.book.specs.declared.Aim.{Aim}
 use Rattle.book.specs.Meaning.{openOf, bookForm, seen}
-use Rattle.book.specs.Steps.{aim, aimOf, soughtOf}
+use Rattle.book.specs.Steps.{metOf, aim, aimOf, soughtOf}
 use Rattle.book.proofs.Meaning.{Sized, form-sound, meant-closed, meant-open, seen-in, seen-out}
 use Rattle.book.proofs.Steps.{sightO, ranged, kept-count}
+use Rattle.book.proofs.Opened.{Opened, met-by}
 use Rattle.book.proofs.Sought.{On, placed, Sought, before, there, place-small, sought-way, sought-on, spot-there, empty-is}
 use Rattle.readings.specs.declared.Lengths.{Lengths}
 use Rattle.readings.specs.declared.Count.{Count}
@@ -107,17 +108,20 @@ lengths-same x y h x′ y′ h′ e f g = rw (e, f, g)
 -- ---- the count
 
 module _ (b : Book) where
-  pub count-unformed : bookForm b ≡ false → countBy REGISTER 0 ≡ countOf (askedAlone changes (seen b))
+  count-unformed : bookForm b ≡ false → countBy REGISTER 0 ≡ countOf (askedAlone changes (seen b))
   unfolding countOf askedAlone beside
   count-unformed e = rw (seen-out b e)
 
-  pub count-closed : bookForm b ≡ true → b .opened ≡ 0 → countBy CLOSED 0 ≡ countOf (askedAlone changes (seen b))
+  count-closed : bookForm b ≡ true → b .opened ≡ 0 → countBy CLOSED 0 ≡ countOf (askedAlone changes (seen b))
   unfolding countOf askedAlone says lowest questioned beside
   count-closed e z = rw (seen-in b e, meant-closed b z)
 
-  pub count-open : Sized b → bookForm b ≡ true → (b .opened ≡ 0 → ⊥) → countBy 0 (b .kept) ≡ countOf (askedAlone changes (seen b))
+  pub count-refused : (n : ℕ) → n ≡ metOf b → (n ≡ 0 → ⊥) → countBy n 0 ≡ countOf (askedAlone changes (seen b))
+  count-refused = met-by b (λ n. countBy n 0 ≡ countOf (askedAlone changes (seen b))) count-unformed count-closed
+
+  pub count-open : Sized b → Opened b → countBy 0 (b .kept) ≡ countOf (askedAlone changes (seen b))
   unfolding countOf askedAlone says lowest questioned given paper.sight
-  count-open s e f = rw (seen-in b e, meant-open b f, kept-count b s (form-sound b e f))
+  count-open s o = rw (seen-in b (o .form), meant-open b (o .opened), kept-count b s (form-sound b (o .form) (o .opened)))
 
 -- ---- with another refusal
 

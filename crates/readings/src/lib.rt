@@ -64,14 +64,12 @@ pub fn read(b: Book, series: u64, set: u64, point: u64) -> Lengths
 pub fn changes(b: Book) -> Count
     ensures { λ r. ⌜ r ≡ countOf (askedAlone changes (seen b)) ⌝ }
 {
-    if book::in_form(b) {
-        if b.opened == 0 {
-            return no_count(Refusal::CLOSED);
-        }
-        return Count {
-            refusal: 0,
-            count: b.kept,
-        };
+    let met = b.met();
+    if met != 0 {
+        return no_count(met);
     }
-    no_count(Refusal::REGISTER)
+    Count {
+        refusal: 0,
+        count: b.kept,
+    }
 }
