@@ -12,7 +12,7 @@ use lib.IntN.{ℤ, pos}
 use Rattle.paper.specs.Units.{Triple, zeros, Terms, Place, Places}
 use Rattle.paper.specs.Books.{Book, nothing, blank}
 use Rattle.paper.specs.Calls.{Act, begin, strike, enter, correct, withdraw, takeBack, read, changes, residual, evaluate, compare, passList, Call, fresh, on, ask}
-use Rattle.paper.proofs.Inputs.{Input, calls, names, inTurn, alone, asksAlone, comparesAlone, file, evaluatesFile, minus, triple, place, termsWith, terms, single, throughout, full, filled, Case, _⇒_, computed, marked, no-case, holds}
+use Rattle.paper.proofs.Inputs.{Input, populations, calls, names, inTurn, alone, asksAlone, comparesAlone, file, evaluatesFile, minus, triple, place, termsWith, terms, single, throughout, full, filled, Case, _⇒_, computed, marked, no-case, holds}
 use Rattle.paper.proofs.Examples.{first-place, example}
 
 -- ---- verdicts, comparison, screening, the list
@@ -77,16 +77,19 @@ decided =
     -- 10·Qh = 6,201·sigma² is within; beyond, with figure and bound shown equal
     ∷ (judging (offsetsH 1 (pos 2) (minus 76) (pos 104)) ⇒ 0 ∷ 1 ∷ 0 ∷ 2361 ∷ 1 ∷ 2488 ∷ 2488 ∷ [])
     ∷ (judging (offsetsH 1 (pos 0) (minus 132) (minus 29)) ⇒ 0 ∷ 1 ∷ 0 ∷ 2361 ∷ 0 ∷ 2488 ∷ 2488 ∷ [])
-    -- 47·Q2 = 100·Q1, and 2 more; 100·Q1 = 213·Q2, and 2 more
-    ∷ (comparing 2 (offsetsH 1 (pos 4) (minus 5) (pos 16)) (offsetsH 2 (pos 10) (minus 20) (pos 10)) ⇒ 0 ∷ 1 ∷ [])
-    ∷ (comparing 2 (offsetsH 1 (pos 1) (minus 4) (pos 1)) (offsetsH 2 (pos 1) (minus 6) (minus 2)) ⇒ 0 ∷ 0 ∷ [])
-    ∷ (comparing 2 (offsetsH 1 (pos 1) (minus 17) (minus 14)) (offsetsH 2 (pos 0) (minus 10) (pos 10)) ⇒ 0 ∷ 1 ∷ [])
-    ∷ (comparing 2 (offsetsH 1 (pos 1) (minus 5) (pos 3)) (offsetsH 2 (pos 0) (minus 4) (pos 1)) ⇒ 0 ∷ 0 ∷ [])
-    -- 59·P2 = 100·P1, and 4 more; 100·P1 = 170·P2, and 20 more
+    -- of two sums for h: 47·Q2 = 100·Q1, and 1 more; 100·Q1 = 213·Q2, and 1 more
+    ∷ (populations 2 47 100 ⇒ 1 ∷ [])
+    ∷ (populations 2 39 83 ⇒ 0 ∷ [])
+    ∷ (populations 2 213 100 ⇒ 1 ∷ [])
+    ∷ (populations 2 49 23 ⇒ 0 ∷ [])
+    -- for xy: 59·P2 = 100·P1, and 1 more; 100·P1 = 170·P2, and 10 more, which is the least
+    ∷ (populations 1 59 100 ⇒ 1 ∷ [])
+    ∷ (populations 1 23 39 ⇒ 0 ∷ [])
+    ∷ (populations 1 17 10 ⇒ 1 ∷ [])
+    ∷ (populations 1 12 7 ⇒ 0 ∷ [])
+    -- and of readings: 59·P2 = 100·P1, and 4 more
     ∷ (comparing 1 (offsetsX 1 (pos 3) (pos 9) (pos 9)) (offsetsX 2 (pos 10) (pos 10) (pos 10)) ⇒ 0 ∷ 1 ∷ [])
     ∷ (comparing 1 (offsetsX 1 (pos 1) (minus 3) (pos 2)) (offsetsX 2 (pos 1) (pos 1) (pos 5)) ⇒ 0 ∷ 0 ∷ [])
-    ∷ (comparing 1 (offsetsX 1 (pos 0) (minus 9) (minus 6)) (offsetsX 2 (pos 5) (pos 5) (pos 5)) ⇒ 0 ∷ 1 ∷ [])
-    ∷ (comparing 1 (offsetsX 1 (pos 0) (minus 3) (pos 0)) (offsetsX 2 (pos 0) (minus 2) (pos 1)) ⇒ 0 ∷ 0 ∷ [])
     -- each axis is held to its own sigma, and its bound is of that
     ∷ (evaluating ((5, pos 21) ∷ []) (inX (pos 2) (minus 126) (minus 20)) ⇒ 0 ∷ 0 ∷ 0 ∷ 0 ∷ 2361 ∷ 0 ∷ 2361 ∷ 0 ∷ 0 ∷ 2361 ∷ 2361 ∷ 1 ∷ 0 ∷ 2612 ∷ [])
     ∷ (evaluating ((4, pos 21) ∷ []) (inH (pos 0) (minus 132) (minus 29)) ⇒ 0 ∷ 0 ∷ 0 ∷ 0 ∷ 0 ∷ 0 ∷ 0 ∷ 2488 ∷ 1 ∷ 0 ∷ 2479 ∷ 0 ∷ 2488 ∷ 2488 ∷ [])

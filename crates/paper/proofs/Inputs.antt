@@ -92,6 +92,8 @@ pub data Input : Type 0 where
   distances : ℤ → ℤ → ℤ → Input
   -- Q of one point and axis, where all offsets are e
   alike : ℤ → Input
+  -- on an axis, are these two sums of one population
+  populations : (axis first second : ℕ) → Input
   -- the answer to a call, after other calls on a fresh register: refusal and values
   calls : List Call → Call → Input
   -- the same: refusal, and what SUSPECT names
@@ -190,6 +192,7 @@ gives (screens s d) = bit (passes s d) ∷ []
 gives (roots n) = nearestOf n ∷ []
 gives (distances x y d) = D (pair x y) 1 1 ∷ distanceOff (termsWith ((0, d) ∷ [])) (pair x y) 1 1 ∷ []
 gives (alike e) = Q terms (replicate PLACES (some (triple e (pos 0) (pos 0)))) x-axis 1 ∷ []
+gives (populations axis s t) = bit (samePopulation axis s t) ∷ []
 gives (calls cs c) = answer (says c (sights (run closed cs)))
 gives (names cs c) = let a = says c (sights (run closed cs)) in a .refused ∷ suspected (a .suspect)
 gives (inTurn cs ds) = refusals (run closed cs) ds
