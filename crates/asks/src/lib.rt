@@ -26,7 +26,7 @@ pub extern "C" fn rtk_read(register: &[u8], book: u64, series: u64, set: u64, po
     ensures { λ r. ⌜ r ≡ lengthsOf (called (ask (read book (record { series = series; set = set; point = point }))) (now (register .entry)) .answer) ⌝ }
 {
     let mut reading = readings::read(shelf::found(register, book), series, set, point);
-    reading.refusal = shelf::turned_away(book, reading.refusal);
+    reading.refusal = shelving::turned_away(book, reading.refusal);
     reading
 }
 
@@ -36,6 +36,6 @@ pub extern "C" fn rtk_changes(register: &[u8], book: u64) -> Count
     ensures { λ r. ⌜ r ≡ countOf (called (ask (changes book)) (now (register .entry)) .answer) ⌝ }
 {
     let mut changes = readings::changes(shelf::found(register, book));
-    changes.refusal = shelf::turned_away(book, changes.refusal);
+    changes.refusal = shelving::turned_away(book, changes.refusal);
     changes
 }

@@ -3,7 +3,7 @@ use Prim.Native.Nat.{ℕ, _+_, _*_, _-_}
 use mathlib.Core.Bool.{cond}
 use mathlib.Core.Option.{Option, none, some}
 use mathlib.Core.List.{List, [], _∷_}
-use lib.ListN.{getD, replicate}
+use lib.ListN.{getD}
 use lib.Dec.{eqb}
 use Rattle.paper.specs.Refusals.{REGISTER, PLACE, CLOSED, FAR}
 use Rattle.paper.specs.Units.{Place, inSheet, number, pointOf, isEmpty, near}
@@ -11,7 +11,6 @@ use Rattle.paper.specs.Books as paper
 use Rattle.paper.specs.Calls.{Act}
 use Rattle.paper.specs.Alone.{refusedAlone, next}
 use Rattle.rows.specs.Paste.{pasted}
-use Rattle.image.specs.Layout.{CHANGE-WORDS}
 use Rattle.image.specs.Lengths.{triple, termsOf}
 use Rattle.image.specs.Places.{spotAt}
 use Rattle.changes.specs.Kept.{pushed, popped, more}
@@ -80,7 +79,3 @@ putOf b p x y h = cond (near (termsOf (b .terms)) (pointOf p) (triple x y h)) (s
 -- the same where a call goes, unless it is refused there
 unfoldable pub placedOf : Book → Aim → ℕ → ℕ → ℕ → Step
 placedOf b a x y h = cond (eqb (a .refusal) 0) (putOf b (a .place) x y h) (step (a .refusal) b)
-
--- an open book with these terms and readings, and nothing to take back
-unfoldable pub filledOf : List ℕ → List ℕ → Book
-filledOf terms cells = record { opened = 1; terms = terms; cells = cells; kept = 0; changes = replicate CHANGE-WORDS 0 }

@@ -1,14 +1,13 @@
 // A book by itself, by value: its words, their form, and the acts on it. Any Book at all may be handed in.
 ghost use mathlib.Core.Path.{_≡_};
 ghost use mathlib.Core.List.{[], _∷_};
-ghost use mathlib.Core.Option.{none};
 ghost use Prim.Native.Nat.{_<_};
 ghost use lib.ListN.{getD};
 ghost use Rattle.paper.specs.Procedure.{PLACES};
 ghost use Rattle.paper.specs.Calls.{enter, correct, withdraw, takeBack};
 ghost use Rattle.image.specs.Lengths.{wordOr};
-ghost use Rattle.book.specs.Meaning.{bookOf, bookForm};
-ghost use Rattle.book.specs.Steps.{stepOf, metOf, aimOf, soughtOf, changedOf, undoneOf, placedOf, filledOf};
+ghost use Rattle.book.specs.Meaning.{bookForm};
+ghost use Rattle.book.specs.Steps.{stepOf, metOf, aimOf, soughtOf, changedOf, undoneOf, placedOf};
 use image::Layout;
 use procedure::Procedure;
 use procedure::Refusal;
@@ -27,22 +26,6 @@ pub struct Book {
 pub struct Step {
     pub refusal: u64,
     pub book: Book,
-}
-
-// A book with nothing in it.
-pub fn closed() -> Book
-    ensures { λ r. ⌜ r ≡ bookOf none ⌝ }
-{
-    let terms = [0u64; Layout::TERMS];
-    let cells = [0u64; Layout::CELLS];
-    let changes = [0u64; Layout::CHANGES];
-    Book {
-        opened: 0,
-        terms,
-        cells,
-        kept: 0,
-        changes,
-    }
 }
 
 // ---- the form
@@ -182,20 +165,6 @@ impl Book {
             refusal: Refusal::FAR,
             book: self,
         }
-    }
-}
-
-// An open book with these terms and readings, and nothing to take back.
-pub fn filled(terms: [u64; Layout::TERMS], cells: [u64; Layout::CELLS]) -> Book
-    ensures { λ r. ⌜ r ≡ filledOf terms cells ⌝ }
-{
-    let changes = [0u64; Layout::CHANGES];
-    Book {
-        opened: 1,
-        terms,
-        cells,
-        kept: 0,
-        changes,
     }
 }
 

@@ -23,7 +23,7 @@ use Rattle.contents.specs.Given.{contentsOf}
 use Rattle.contents.specs.declared.Contents.{Contents}
 use Rattle.fieldfile.proofs.Agreement.{read-only, terms-back, places-back}
 use Rattle.book.specs.Meaning.{bookOf}
-use Rattle.book.specs.Steps.{filledOf}
+use Rattle.making.specs.Filled.{filledOf}
 use Rattle.filebook.specs.FileBook.{bookRead}
 
 -- ---- what a file of the form holds is what its words mean

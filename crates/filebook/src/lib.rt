@@ -13,7 +13,7 @@ fn refused(refusal: u64) -> Step
 {
     Step {
         refusal,
-        book: book::closed(),
+        book: making::closed(),
     }
 }
 
@@ -30,7 +30,7 @@ pub fn read_book(file: &[u8]) -> Step
             if places::all_near(&terms, &cells) {
                 return Step {
                     refusal: 0,
-                    book: book::filled(terms, cells),
+                    book: making::filled(terms, cells),
                 };
             }
             return refused(Refusal::FAR);

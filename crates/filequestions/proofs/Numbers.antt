@@ -21,8 +21,9 @@ use Rattle.paper.proofs.Tests.{and-left, and-right}
 use Rattle.evaluation.specs.Evaluating.{judgementOf}
 use Rattle.evaluation.specs.declared.Judgement.{Judgement}
 use Rattle.figures.specs.Judging.{AllHeld}
-use Rattle.verdicts.specs.Given as given
-use Rattle.verdicts.specs.Text.{axisLine, verdictText}
+use Rattle.axes.specs.Given as given
+use Rattle.axes.specs.Text.{axisLine}
+use Rattle.verdicts.specs.Text.{verdictText}
 use Rattle.report.specs.Text.{refusalNumbers, refusalText, reportText, valueText, reportOf}
 
 -- at most the greatest number of a refusal; those of a suspect are no greater

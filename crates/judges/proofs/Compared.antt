@@ -20,7 +20,8 @@ use Rattle.comparison.specs.Comparing.{comparedOf}
 use Rattle.book.proofs.Meaning.{seen-image}
 use Rattle.lent.specs.Image.{meantFrom}
 use Rattle.lent.specs.Calls.{shut, callOn, called}
-use Rattle.shelf.specs.Steps.{pickedOf, foundOf, turnedAway}
+use Rattle.shelving.specs.Steps.{turnedAway}
+use Rattle.shelf.specs.Steps.{pickedOf, foundOf}
 use Rattle.lent.proofs.Image.{state-in, state-out}
 use Rattle.shelf.proofs.Ways.{Within, found, elsewhere, Way, within, without, within-seen, picked-way, found-way, found-seen, found-meant}
 use Rattle.judges.specs.Answers.{plainlyOf, comparisonOf}

@@ -11,7 +11,8 @@ use Rattle.evaluation.specs.Evaluating.{judgementOf}
 use Rattle.doubles.specs.declared.Evaluated.{Evaluated}
 use Rattle.doubles.specs.Doubles.{doubled, evaluationOf, plainOf}
 use Rattle.lent.specs.Calls.{called}
-use Rattle.shelf.specs.Steps.{foundOf, turnedAway}
+use Rattle.shelving.specs.Steps.{turnedAway}
+use Rattle.shelf.specs.Steps.{foundOf}
 use Rattle.shelf.proofs.Asked.{turned, asked, evaluates}
 
 pub evaluation-asked : (bs : List ℕ) (k : ℕ) (b : Book) → b ≡ foundOf bs k → (v : Evaluated) (r : ℕ) → v ≡ doubled (judgementOf (askedAlone evaluate (seen b))) → r ≡ turnedAway k (v .refusal)

@@ -24,7 +24,7 @@ pub extern "C" fn rtk_residual(
 {
     let b = shelf::found(register, book);
     let mut residual = questions::residual(b, series, set, point);
-    residual.refusal = shelf::turned_away(book, residual.refusal);
+    residual.refusal = shelving::turned_away(book, residual.refusal);
     residual
 }
 
@@ -34,7 +34,7 @@ pub extern "C" fn rtk_evaluate(register: &[u8], book: u64) -> Evaluation
     ensures { λ r. ⌜ r ≡ evaluationOf (called (ask (evaluate book)) (now (register .entry)) .answer) ⌝ }
 {
     let mut e = questions::evaluate(shelf::found(register, book));
-    e.refusal = shelf::turned_away(book, e.refusal);
+    e.refusal = shelving::turned_away(book, e.refusal);
     doubles::plain(e)
 }
 
@@ -72,7 +72,7 @@ pub extern "C" fn rtk_compare(register: &[u8], first: u64, second: u64, axis: u6
     let a = shelf::found(register, first);
     let b = shelf::picked(register, second);
     let mut c = pairs::compare(a, b, axis);
-    c.refusal = shelf::turned_away(first, c.refusal);
-    c.refusal = shelf::turned_away(second, c.refusal);
+    c.refusal = shelving::turned_away(first, c.refusal);
+    c.refusal = shelving::turned_away(second, c.refusal);
     plainly(c)
 }

@@ -1,7 +1,8 @@
-// The lent bytes of a register, and their form.
+// The lent bytes of a register, their form, and the numbers of its books.
 ghost use mathlib.Core.Path.{_≡_};
 ghost use Prim.Native.Nat.{_≤_};
 ghost use Rattle.paper.specs.Procedure.{BOOKS};
+ghost use Rattle.paper.specs.Units.{oneTo};
 ghost use Rattle.lent.specs.Image.{inForm, formBetween};
 use image::Layout;
 use procedure::Procedure;
@@ -30,4 +31,11 @@ pub fn formed(register: &[u8]) -> bool
     ensures { λ r. ⌜ r ≡ inForm (now (register .entry)) ⌝ }
 {
     formed_from(register, 0, Procedure::BOOKS)
+}
+
+// Whether a number is that of a book.
+pub fn is_book(book: u64) -> bool
+    ensures { λ r. ⌜ r ≡ oneTo BOOKS book ⌝ }
+{
+    procedure::one_to(Procedure::BOOKS as u64, book)
 }

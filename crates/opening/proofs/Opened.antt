@@ -23,10 +23,11 @@ use Rattle.image.proofs.Bounds.{terms-short, range-given}
 use Rattle.book.specs.declared.Book.{Book}
 use Rattle.book.specs.declared.Step.{Step}
 use Rattle.book.specs.Meaning.{bookOf, bookForm}
-use Rattle.book.specs.Steps.{step, stepOf, metOf, filledOf}
+use Rattle.book.specs.Steps.{step, stepOf, metOf}
 use Rattle.book.proofs.Meaning.{Sized, meant-closed, meant-open}
 use Rattle.book.proofs.Steps.{step-unformed, step-refused, step-done}
 use Rattle.book.proofs.Opened.{Opened, met-refused}
+use Rattle.making.specs.Filled.{filledOf}
 
 pub strike-refused : (b : Book) → Sized b → (n : ℕ) → n ≡ metOf b → (n ≡ 0 → ⊥) → step n b ≡ stepOf strike b
 unfolding rules

@@ -23,7 +23,7 @@ fn begin_words(b: Book, terms: [u64; Layout::TERMS]) -> Step
         if ranges::in_range(&terms) {
             return Step {
                 refusal: 0,
-                book: book::filled(terms, [0u64; Layout::CELLS]),
+                book: making::filled(terms, [0u64; Layout::CELLS]),
             };
         }
         return Step {
@@ -72,6 +72,6 @@ pub fn strike(b: Book) -> Step
     }
     Step {
         refusal: 0,
-        book: book::closed(),
+        book: making::closed(),
     }
 }

@@ -23,7 +23,8 @@ use Rattle.decimals.specs.Reader.{then, fixed, stops, run, nonzero, number, fie
 use Rattle.paper.proofs.Tables.{each-right}
 use Rattle.fieldfile.specs.Reader.{placed, spot, spots, bodies, lineCount, count, table, ends, whole, readOf}
 use Rattle.fieldfile.proofs.Examples.{paper-file}
-use Rattle.verdicts.specs.Text.{axisLine, verdictText}
+use Rattle.axes.specs.Text.{axisLine}
+use Rattle.verdicts.specs.Text.{verdictText}
 use Rattle.report.specs.Text.{refusalNumbers, refusalText, reportText, valueText, reportOf}
 
 -- what is printed of a file

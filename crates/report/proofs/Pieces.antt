@@ -10,6 +10,7 @@ use lib.Dec.{eqb}
 use lib.ListN.{length, take, drop, replicate, length-append}
 use lib.Seq.{take-append-seam}
 use lib.IntN.{pos}
+use Rattle.rows.specs.Lists.{All}
 use Rattle.rows.specs.Paste.{pasted}
 use Rattle.paper.specs.Refusals.{SUSPECT}
 use Rattle.paper.specs.Screening.{Suspect}
@@ -18,8 +19,8 @@ use Rattle.decimals.specs.Ascii.{ascii}
 use Rattle.decimals.specs.Numbers.{line}
 use Rattle.printing.specs.Given.{Put}
 use Rattle.verdicts.specs.Text.{verdictText}
-use Rattle.verdicts.specs.Given.{Fits}
-use Rattle.verdicts.proofs.Pieces.{all-fit, long-numbers}
+use Rattle.axes.specs.Given.{Fits}
+use Rattle.axes.proofs.Pieces.{long-numbers}
 use Rattle.report.specs.Text.{REFUSED, refusalNumbers, refusalText, reportText}
 use Rattle.report.specs.Given.{REPORT, held}
 use Rattle.report.specs.declared.Printed.{Printed}
@@ -47,7 +48,7 @@ module _ (n : ℕ) (s : Suspect) where
 -- ---- how long
 
 pub long-refusal : (n : ℕ) (s : Suspect) → Fits n → Fits (s .series) → Fits (s .set) → Fits (s .quantity) → length (refusalText n s) ≤ REPORT
-unfolding refusalText refusalNumbers all-fit ascii
+unfolding refusalText refusalNumbers All ascii
 long-refusal n s p q r t = go (eqb n SUSPECT)
   where
     go : (b : Bool) → length (REFUSED ++ line (cond b (map pos (n ∷ s .series ∷ s .set ∷ s .quantity ∷ [])) (map pos (n ∷ [])))) ≤ REPORT

@@ -3,7 +3,7 @@ ghost use mathlib.Core.Path.{_≡_};
 ghost use Prim.Native.Nat.{_≤_};
 ghost use lib.ListN.{length};
 ghost use Rattle.printing.specs.Given.{Put};
-ghost use Rattle.verdicts.specs.Given.{Fits, FitsAxis};
+ghost use Rattle.axes.specs.Given.{Fits, FitsAxis};
 ghost use Rattle.report.specs.Text.{refusalText, reportText};
 ghost use Rattle.report.specs.Given.{suspect, held};
 use image::ORIGIN;

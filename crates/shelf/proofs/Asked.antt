@@ -18,9 +18,11 @@ use Rattle.book.specs.Meaning.{seen}
 use Rattle.book.proofs.Meaning.{seen-image}
 use Rattle.lent.specs.Image.{meantFrom}
 use Rattle.lent.specs.Calls.{shut, callOn, called}
-use Rattle.shelf.specs.Steps.{foundOf, turnedAway}
+use Rattle.shelving.specs.Steps.{turnedAway}
+use Rattle.shelf.specs.Steps.{foundOf}
 use Rattle.lent.proofs.Image.{state-in, state-out}
-use Rattle.shelf.proofs.Ways.{found, elsewhere, Way, within, without, found-way, found-seen, found-meant, away-among}
+use Rattle.shelving.proofs.Ways.{away-among}
+use Rattle.shelf.proofs.Ways.{found, elsewhere, Way, within, without, found-way, found-seen, found-meant}
 
 -- an answer of the book of that number, by what the book met
 unfoldable pub turned : ℕ → Answer → Answer

@@ -1,18 +1,15 @@
--- The steps of a call on one book: the book found, what refuses the call, the book put back.
+-- The first step of a call on one book: the book found.
 use Prim.Native.Nat.{ℕ, _-_, _*_}
 use mathlib.Core.Bool.{Bool, cond, _&&_}
 use mathlib.Core.Option.{none}
 use mathlib.Core.List.{List}
 use lib.ListN.{length}
 use lib.Dec.{eqb}
-use Rattle.paper.specs.Refusals.{REGISTER, PLACE}
 use Rattle.paper.specs.Procedure.{BOOKS}
 use Rattle.paper.specs.Units.{oneTo}
-use Rattle.words.specs.Words.{bytesOf}
-use Rattle.rows.specs.Paste.{pasted}
 use Rattle.book.specs.declared.Book.{Book}
 use Rattle.book.specs.Meaning.{bookOf}
-use Rattle.stored.specs.Image.{BOOK, wordsOf, bookAt}
+use Rattle.stored.specs.Image.{BOOK, bookAt}
 use Rattle.lent.specs.Image.{LENGTH, inForm, formBetween}
 
 -- the book of that number as its bytes stand; a closed one where the bytes have none
@@ -30,11 +27,3 @@ unformed b = record { opened = 2; terms = b .terms; cells = b .cells; kept = b .
 -- the book of that number, made one that is not in form where another is not
 unfoldable pub foundOf : List ℕ → ℕ → Book
 foundOf bs k = cond (othersForm bs k) (pickedOf bs k) (unformed (pickedOf bs k))
-
--- REGISTER, then PLACE, then what the book met
-unfoldable pub turnedAway : ℕ → ℕ → ℕ
-turnedAway k met = cond (eqb met REGISTER) REGISTER (cond (oneTo BOOKS k) met PLACE)
-
--- the bytes with this book under that number
-abbrev pub placedAt : List ℕ → ℕ → Book → List ℕ
-placedAt bs k b = pasted bs ((k - 1) * BOOK) (bytesOf (wordsOf b))

@@ -1,12 +1,11 @@
 -- Document 01, "The field file": what the program prints of two verdicts.
 use Prim.Native.Nat.{ℕ}
 use mathlib.Core.Bool.{cond}
-use mathlib.Core.List.{List, [], _∷_, _++_}
-use lib.IntN.{pos}
+use mathlib.Core.List.{List, _++_}
 use Rattle.paper.specs.Verdicts.{bothWithin}
 use Rattle.paper.specs.declared.Judged.{Judged}
 use Rattle.decimals.specs.Ascii.{ascii}
-use Rattle.decimals.specs.Numbers.{line}
+use Rattle.axes.specs.Text.{axisLine}
 
 abbrev pub XY : List ℕ
 XY = ascii "XY "
@@ -14,21 +13,11 @@ XY = ascii "XY "
 abbrev pub H : List ℕ
 H = ascii "H "
 
-abbrev pub WITHIN : List ℕ
-WITHIN = ascii "WITHIN "
-
-abbrev pub BEYOND : List ℕ
-BEYOND = ascii "BEYOND "
-
 abbrev pub PASS : List ℕ
 PASS = ascii "PASS\n"
 
 abbrev pub FAIL : List ℕ
 FAIL = ascii "FAIL\n"
-
--- axis, verdict, m and b
-unfoldable pub axisLine : List ℕ → Judged → List ℕ
-axisLine axis j = axis ++ cond (j .within) WITHIN BEYOND ++ line (pos (j .m) ∷ pos (j .b) ∷ [])
 
 -- for xy and h in turn; then PASS if both are within, else FAIL
 unfoldable pub verdictText : Judged → Judged → List ℕ

@@ -1,40 +1,17 @@
 // What the program prints of two verdicts.
-ghost use mathlib.Core.List.{[], _∷_};
-ghost use Prim.Native.Nat.{_+_, _≤_};
+ghost use Prim.Native.Nat.{_≤_};
 ghost use lib.ListN.{length};
-ghost use lib.IntN.{pos};
-ghost use Rattle.decimals.specs.Numbers.{line};
 ghost use Rattle.printing.specs.Given.{Put};
-ghost use Rattle.verdicts.specs.Text.{axisLine, verdictText};
-ghost use Rattle.verdicts.specs.Given.{Fits, FitsAxis};
-use image::ORIGIN;
+ghost use Rattle.axes.specs.Given.{FitsAxis};
+ghost use Rattle.verdicts.specs.Text.{verdictText};
 use paper::Judged;
-
-// A line of m and b.
-fn put_figures(out: &mut [u8], at: usize, m: u64, b: u64) -> usize
-    requires { ⌜ Fits m × Fits b × (at + length (line (pos m ∷ pos b ∷ [])) ≤ length (now out)) ⌝ }
-    ensures { λ r. ⌜ Put (now (out .entry)) at (line (pos m ∷ pos b ∷ [])) (now (out .exit)) r ⌝ }
-{
-    let t = [m + ORIGIN, b + ORIGIN];
-    printing::put_numbers(out, at, &t)
-}
-
-// The line of an axis.
-fn put_axis(out: &mut [u8], at: usize, name: &[u8], axis: Judged) -> usize
-    requires { ⌜ FitsAxis axis × (at + length (axisLine (now name) axis) ≤ length (now out)) ⌝ }
-    ensures { λ r. ⌜ Put (now (out .entry)) at (axisLine (now (name .entry)) axis) (now (out .exit)) r ⌝ }
-{
-    let i = printing::put_fixed(out, at, name);
-    let j = printing::put_either(out, i, axis.within, b"WITHIN ", b"BEYOND ");
-    put_figures(out, j, axis.m, axis.b)
-}
 
 // Both lines, and PASS or FAIL.
 pub fn put_verdicts(out: &mut [u8], xy: Judged, h: Judged) -> usize
     requires { ⌜ FitsAxis xy × FitsAxis h × (length (verdictText xy h) ≤ length (now out)) ⌝ }
     ensures { λ r. ⌜ Put (now (out .entry)) 0 (verdictText xy h) (now (out .exit)) r ⌝ }
 {
-    let i = put_axis(out, 0, b"XY ", xy);
-    let j = put_axis(out, i, b"H ", h);
+    let i = axes::put_axis(out, 0, b"XY ", xy);
+    let j = axes::put_axis(out, i, b"H ", h);
     printing::put_either(out, j, xy.within & h.within, b"PASS\n", b"FAIL\n")
 }

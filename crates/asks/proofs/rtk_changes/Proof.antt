@@ -4,7 +4,7 @@ use mathlib.Core.Path.{ap, _∙_}
 use Rattle.paper.specs.Calls.{changes}
 use Rattle.readings.specs.Answers.{countOf}
 use Rattle.readings.proofs.Asks.{count-turned}
-use Rattle.shelf.specs.Steps.{turnedAway}
+use Rattle.shelving.specs.Steps.{turnedAway}
 use Rattle.shelf.proofs.Asked.{turned, asked, counts}
 use borrow.Author.Needs.{needs}
 use Rattle.asks.proofs.rtk_changes.Statement.{statement}

@@ -5,7 +5,7 @@ use Rattle.paper.specs.Units.{Place}
 use Rattle.paper.specs.Calls.{residual}
 use Rattle.readings.specs.Answers.{lengthsOf}
 use Rattle.readings.proofs.Asks.{lengths-turned}
-use Rattle.shelf.specs.Steps.{turnedAway}
+use Rattle.shelving.specs.Steps.{turnedAway}
 use Rattle.shelf.proofs.Asked.{turned, asked, residues}
 use borrow.Author.Needs.{needs}
 use Rattle.judges.proofs.rtk_residual.Statement.{statement}

@@ -8,7 +8,7 @@ use Rattle.decimals.specs.Numbers.{line}
 use Rattle.report.specs.Text.{REFUSED, refusalNumbers, refusalText}
 use Rattle.report.specs.Given.{suspect}
 use Rattle.printing.proofs.Rows.{put-as, room-as}
-use Rattle.verdicts.proofs.Pieces.{first-fits, second-fits, two-put, starts, lens-up}
+use Rattle.axes.proofs.Pieces.{first-fits, second-fits, two-put, starts, lens-up}
 use Rattle.report.proofs.Pieces.{numbers-suspect, numbers-other}
 use Rattle.report.proofs.put_refusal.Statement.{statement}
 use Rattle.report.proofs.put_refusal.Tie as tie

@@ -6,8 +6,9 @@ use mathlib.Core.Path.{_∙_}
 use mathlib.Core.List.{List}
 use Rattle.paper.specs.declared.Judged.{Judged}
 use Rattle.decimals.specs.Ascii.{ascii}
-use Rattle.verdicts.specs.Text.{XY, axisLine, verdictText}
-use Rattle.verdicts.proofs.Pieces.{first-fits, second-fits, two-fit, third-fits, all-three, starts}
+use Rattle.axes.specs.Text.{axisLine}
+use Rattle.verdicts.specs.Text.{XY, verdictText}
+use Rattle.axes.proofs.Pieces.{first-fits, second-fits, two-fit, third-fits, all-three, starts}
 use Rattle.verdicts.proofs.put_verdicts.Statement.{statement}
 use Rattle.verdicts.proofs.put_verdicts.Tie as tie
 
