@@ -1,38 +1,33 @@
--- `form::zero_from`: what is left to test gives what the whole gives.
+-- `form::zero_from`: what was seen, and what is left to see, give what the whole gives.
 -- Assumes nothing.
 use Prim.Native.Nat.{_≤_, _<_, _-_}
 use native.Mathlib.Omega.{arith}
 use mathlib.Core.Path.{_≡_, refl, sym, _∙_}
+use mathlib.Core.Bool.{_&&_}
 use lib.ListN.{length, drop}
 use borrow.Author.Needs.{needs}
 use Rattle.image.specs.Changes.{zeros}
-use Rattle.form.proofs.Turns.{zeros-on, zeros-stop, zeros-end}
+use Rattle.form.proofs.Turns.{zeros-on, zeros-end}
 use Rattle.form.proofs.zero_from.Statement.{statement}
 use Rattle.form.proofs.zero_from.Tie as tie
 
 abbrev Inv-loop : tie.InvT-loop
-Inv-loop l from i₀ i =
-    (i ≤ length l) × (zeros (drop from l) ≡ zeros (drop i l))
+Inv-loop l from zero₀ i₀ zero i =
+    (i ≤ length l) × (zeros (drop from l) ≡ zero && zeros (drop i l))
 
 abbrev μ-loop : tie.MeasureT-loop
-μ-loop l from i₀ i =
+μ-loop l from zero₀ i₀ zero i =
     length l - i
 
 loop-holds : tie.Need-loop-holds Inv-loop μ-loop
 loop-holds c =
     (c .pre, refl)
 
-mul-if1 : tie.Need-mul-if1 Inv-loop μ-loop
-mul-if1 c = search needs
+mul-zero : tie.Need-mul-zero Inv-loop μ-loop
+mul-zero c = search needs
 
-shared-slice-read-if1 : tie.Need-shared-slice-read-if1 Inv-loop μ-loop
-shared-slice-read-if1 c = search needs
-
-returns : tie.Need-returns Inv-loop μ-loop
-returns c =
-    let start : tie.Start Inv-loop μ-loop = search in
-    let h : c .before .before .before .loop .i < length (start .args .l .now) = omega arith in
-    sym (c .before .before .before .loop .inv .1 ∙ zeros-stop _ _ h (c .if1 .taken))
+shared-slice-read-zero : tie.Need-shared-slice-read-zero Inv-loop μ-loop
+shared-slice-read-zero c = search needs
 
 add-i : tie.Need-add-i Inv-loop μ-loop
 add-i c = search needs
@@ -43,13 +38,14 @@ loop-less c = search needs
 loop-again : tie.Need-loop-again Inv-loop μ-loop
 loop-again c =
     let start : tie.Start Inv-loop μ-loop = search in
-    let h : c .before .before .before .loop .i < length (start .args .l .now) = omega arith in
-    (omega arith, c .before .before .before .loop .inv .1 ∙ zeros-on _ _ h (c .if1 .left))
+    let turn = c .before .before .loop in
+    let h : turn .i < length (start .args .l .now) = omega arith in
+    (omega arith, turn .inv .1 ∙ zeros-on (turn .zero) (start .args .l .now) (turn .i) h)
 
-returns-2 : tie.Need-returns-2 Inv-loop μ-loop
-returns-2 c =
+returns : tie.Need-returns Inv-loop μ-loop
+returns c =
     let h : length (c .before .before .args .l .now) ≤ c .before .loop .i = omega arith in
-    sym (c .before .loop .inv .1 ∙ zeros-end _ _ h)
+    sym (c .before .loop .inv .1 ∙ zeros-end (c .before .loop .zero) _ _ h)
 
 pub zero-from-spec : {M : Type 1} → statement M
 zero-from-spec =
@@ -58,10 +54,9 @@ zero-from-spec =
     Inv-loop
     μ-loop
     loop-holds
-    mul-if1
-    shared-slice-read-if1
-    returns
+    mul-zero
+    shared-slice-read-zero
     add-i
     loop-less
     loop-again
-    returns-2)
+    returns)

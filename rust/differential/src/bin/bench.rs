@@ -30,7 +30,7 @@ fn main() {
     println!("Sixteen full books, 32 changes kept in each; medians of {ROUNDS} rounds.\n");
     println!("| Work | library | second | ratio |\n|---|---|---|---|");
     for case in [
-        check(&register),
+        check("the form check apart", &register),
         read(&register),
         changes(&register),
         residual(&register),
@@ -42,6 +42,8 @@ fn main() {
         strike_and_open(&register),
         withdraw_and_enter(&register),
         take_back_and_correct(&register),
+        check("the form check of open books, empty", &empty_register()),
+        check("the form check of closed books", &[0; LENGTH]),
     ] {
         let (name, turns) = (case.name, case.turns);
         tell_turn(name, turns, &timed(case));
@@ -108,6 +110,15 @@ fn round(work: &mut Work, turns: std::ops::Range<u64>) -> f64 {
     start.elapsed().as_nanos() as f64
 }
 
+/// Every book open, and nothing in it.
+fn empty_register() -> Vec<u8> {
+    let mut register = vec![0; LENGTH];
+    for book in 1..=BOOKS as u64 {
+        assert_eq!(boundary::open(&mut register, book, TERMS), 0);
+    }
+    register
+}
+
 /// Every book full, with as many changes kept as can be.
 fn full_register() -> Vec<u8> {
     let mut register = vec![0; LENGTH];
@@ -137,214 +148,215 @@ fn book_of(turn: u64) -> u64 {
     turn % BOOKS as u64 + 1
 }
 
-fn check(register: &[u8]) -> Case {
-    let (ours, theirs) = (register.to_vec(), register.to_vec());
+/// Work on a register of its own for each side.
+fn on_register(
+    name: &'static str,
+    turns: u64,
+    register: &[u8],
+    mut library: impl FnMut(&mut [u8], u64) + 'static,
+    mut second: impl FnMut(&mut [u8], u64) + 'static,
+) -> Case {
+    let (mut ours, mut theirs) = (register.to_vec(), register.to_vec());
     Case {
-        name: "the form check apart",
-        turns: 5_000,
-        library: Box::new(move |_| assert_eq!(boundary::check(black_box(&ours)), 0)),
-        second: Box::new(move |_| assert!(written_again::in_form(black_box(&theirs)))),
+        name,
+        turns,
+        library: Box::new(move |turn| library(black_box(&mut ours), turn)),
+        second: Box::new(move |turn| second(black_box(&mut theirs), turn)),
     }
+}
+
+/// An accepted answer, all of which has to be worked out.
+macro_rules! accepted {
+    ($answer:expr) => {
+        assert_eq!(black_box($answer).refusal, 0)
+    };
+}
+
+fn check(name: &'static str, register: &[u8]) -> Case {
+    on_register(
+        name,
+        5_000,
+        register,
+        |register, _| assert_eq!(boundary::check(register), 0),
+        |register, _| assert!(written_again::in_form(register)),
+    )
 }
 
 fn read(register: &[u8]) -> Case {
-    let (ours, theirs) = (register.to_vec(), register.to_vec());
-    Case {
-        name: "one call: read a place",
-        turns: 5_000,
-        library: Box::new(move |turn| {
+    on_register(
+        "one call: read a place",
+        5_000,
+        register,
+        |register, turn| {
             let (place, _) = correction(turn);
-            let read = boundary::read(black_box(&ours), book_of(turn), place);
-            assert_eq!(black_box(read).refusal, 0);
-        }),
-        second: Box::new(move |turn| {
+            accepted!(boundary::read(register, book_of(turn), place));
+        },
+        |register, turn| {
             let ([a, b, c], _) = correction(turn);
-            let read = written_again::read(black_box(&theirs), book_of(turn), a, b, c);
-            assert_eq!(black_box(read).refusal, 0);
-        }),
-    }
+            accepted!(written_again::read(register, book_of(turn), a, b, c));
+        },
+    )
 }
 
 fn changes(register: &[u8]) -> Case {
-    let (ours, theirs) = (register.to_vec(), register.to_vec());
-    Case {
-        name: "how many can be taken back",
-        turns: 5_000,
-        library: Box::new(move |turn| {
-            let count = boundary::changes(black_box(&ours), book_of(turn));
-            assert_eq!(black_box(count).refusal, 0);
-        }),
-        second: Box::new(move |turn| {
-            let count = written_again::changes(black_box(&theirs), book_of(turn));
-            assert_eq!(black_box(count).refusal, 0);
-        }),
-    }
+    on_register(
+        "how many can be taken back",
+        5_000,
+        register,
+        |register, turn| accepted!(boundary::changes(register, book_of(turn))),
+        |register, turn| accepted!(written_again::changes(register, book_of(turn))),
+    )
 }
 
 fn residual(register: &[u8]) -> Case {
-    let (ours, theirs) = (register.to_vec(), register.to_vec());
-    Case {
-        name: "residual",
-        turns: 5_000,
-        library: Box::new(move |turn| {
+    on_register(
+        "residual",
+        5_000,
+        register,
+        |register, turn| {
             let (place, _) = correction(turn);
-            let residual = boundary::residual(black_box(&ours), book_of(turn), place);
-            assert_eq!(black_box(residual).refusal, 0);
-        }),
-        second: Box::new(move |turn| {
+            accepted!(boundary::residual(register, book_of(turn), place));
+        },
+        |register, turn| {
             let ([a, b, c], _) = correction(turn);
-            let residual = written_again::residual(black_box(&theirs), book_of(turn), a, b, c);
-            assert_eq!(black_box(residual).refusal, 0);
-        }),
-    }
-}
-
-fn compare(register: &[u8]) -> Case {
-    let (ours, theirs) = (register.to_vec(), register.to_vec());
-    Case {
-        name: "compare",
-        turns: 5_000,
-        library: Box::new(move |turn| {
-            let (first, second, axis) = (book_of(turn), book_of(turn + 1), turn % 2 + 1);
-            let comparison = boundary::compare(black_box(&ours), first, second, axis);
-            assert_eq!(black_box(comparison).refusal, 0);
-        }),
-        second: Box::new(move |turn| {
-            let (first, second, axis) = (book_of(turn), book_of(turn + 1), turn % 2 + 1);
-            let comparison = written_again::compare(black_box(&theirs), first, second, axis);
-            assert_eq!(black_box(comparison).refusal, 0);
-        }),
-    }
-}
-
-fn fresh(register: &[u8]) -> Case {
-    let (mut ours, mut theirs) = (register.to_vec(), register.to_vec());
-    Case {
-        name: "a fresh register",
-        turns: 10_000,
-        library: Box::new(move |_| assert_eq!(boundary::fresh(black_box(&mut ours)), 0)),
-        second: Box::new(move |_| assert_eq!(written_again::fresh(black_box(&mut theirs)), 0)),
-    }
-}
-
-fn strike_and_open(register: &[u8]) -> Case {
-    let (mut ours, mut theirs) = (register.to_vec(), register.to_vec());
-    Case {
-        name: "strike a book, then open it",
-        turns: 2_000,
-        library: Box::new(move |_| {
-            assert_eq!(boundary::strike(&mut ours, 1), 0);
-            assert_eq!(boundary::open(&mut ours, 1, TERMS), 0);
-        }),
-        second: Box::new(move |_| {
-            assert_eq!(written_again::strike(&mut theirs, 1), 0);
-            assert_eq!(written_again::open(&mut theirs, 1, TERMS), 0);
-        }),
-    }
-}
-
-fn withdraw_and_enter(register: &[u8]) -> Case {
-    let (mut ours, mut theirs) = (register.to_vec(), register.to_vec());
-    Case {
-        name: "withdraw, then enter",
-        turns: 2_000,
-        library: Box::new(move |turn| {
-            let (book, (place, reading)) = (book_of(turn), correction(turn));
-            assert_eq!(boundary::withdraw(&mut ours, book, place), 0);
-            assert_eq!(boundary::enter(&mut ours, book, place, reading), 0);
-        }),
-        second: Box::new(move |turn| {
-            let (book, ([a, b, c], [x, y, h])) = (book_of(turn), correction(turn));
-            assert_eq!(written_again::withdraw(&mut theirs, book, a, b, c), 0);
-            let refusal = written_again::enter(&mut theirs, book, a, b, c, x, y, h);
-            assert_eq!(refusal, 0);
-        }),
-    }
-}
-
-fn take_back_and_correct(register: &[u8]) -> Case {
-    let (mut ours, mut theirs) = (register.to_vec(), register.to_vec());
-    Case {
-        name: "take back, then correct",
-        turns: 2_000,
-        library: Box::new(move |turn| {
-            let (book, (place, reading)) = (book_of(turn), correction(turn));
-            assert_eq!(boundary::take_back(&mut ours, book), 0);
-            assert_eq!(boundary::correct(&mut ours, book, place, reading), 0);
-        }),
-        second: Box::new(move |turn| {
-            let (book, ([a, b, c], [x, y, h])) = (book_of(turn), correction(turn));
-            assert_eq!(written_again::take_back(&mut theirs, book), 0);
-            let refusal = written_again::correct(&mut theirs, book, a, b, c, x, y, h);
-            assert_eq!(refusal, 0);
-        }),
-    }
+            accepted!(written_again::residual(register, book_of(turn), a, b, c));
+        },
+    )
 }
 
 fn evaluate(register: &[u8]) -> Case {
-    let (ours, theirs) = (register.to_vec(), register.to_vec());
-    Case {
-        name: "evaluate",
-        turns: 5_000,
-        library: Box::new(move |turn| {
-            let evaluation = boundary::evaluate(black_box(&ours), book_of(turn));
-            assert_eq!(black_box(evaluation).refusal, 0);
-        }),
-        second: Box::new(move |turn| {
-            let evaluation = written_again::evaluate(black_box(&theirs), book_of(turn));
-            assert_eq!(black_box(evaluation).refusal, 0);
-        }),
-    }
+    on_register(
+        "evaluate",
+        5_000,
+        register,
+        |register, turn| accepted!(boundary::evaluate(register, book_of(turn))),
+        |register, turn| accepted!(written_again::evaluate(register, book_of(turn))),
+    )
 }
 
-fn correct_and_evaluate(register: &[u8]) -> Case {
-    let (mut ours, mut theirs) = (register.to_vec(), register.to_vec());
-    Case {
-        name: "correct, then evaluate",
-        turns: CORRECTIONS / ROUNDS,
-        library: Box::new(move |turn| {
-            let (book, (place, reading)) = (book_of(turn), correction(turn));
-            assert_eq!(boundary::correct(&mut ours, book, place, reading), 0);
-            assert_eq!(black_box(boundary::evaluate(&ours, book)).refusal, 0);
-        }),
-        second: Box::new(move |turn| {
-            let (book, ([a, b, c], [x, y, h])) = (book_of(turn), correction(turn));
-            let refusal = written_again::correct(&mut theirs, book, a, b, c, x, y, h);
-            assert_eq!(refusal, 0);
-            assert_eq!(black_box(written_again::evaluate(&theirs, book)).refusal, 0);
-        }),
-    }
+fn compare(register: &[u8]) -> Case {
+    let books_and_axis = |turn| (book_of(turn), book_of(turn + 1), turn % 2 + 1);
+    on_register(
+        "compare",
+        5_000,
+        register,
+        move |register, turn| {
+            let (first, second, axis) = books_and_axis(turn);
+            accepted!(boundary::compare(register, first, second, axis));
+        },
+        move |register, turn| {
+            let (first, second, axis) = books_and_axis(turn);
+            accepted!(written_again::compare(register, first, second, axis));
+        },
+    )
 }
 
 fn pass_list(register: &[u8]) -> Case {
-    let (ours, theirs) = (register.to_vec(), register.to_vec());
-    Case {
-        name: "pass list",
-        turns: 2_000,
-        library: Box::new(move |_| {
+    on_register(
+        "pass list",
+        2_000,
+        register,
+        |register, _| {
             let mut list = [0; BOOKS];
-            let listed = boundary::pass_list(black_box(&ours), &mut list);
-            assert_eq!(black_box(listed).refusal, 0);
+            accepted!(boundary::pass_list(register, &mut list));
             black_box(list);
-        }),
-        second: Box::new(move |_| {
+        },
+        |register, _| {
             let mut list = [0; BOOKS];
-            let listed = written_again::pass_list(black_box(&theirs), &mut list);
-            assert_eq!(black_box(listed).refusal, 0);
+            accepted!(written_again::pass_list(register, &mut list));
             black_box(list);
-        }),
-    }
+        },
+    )
 }
 
 fn file() -> Case {
     Case {
         name: "read and evaluate a file",
         turns: 10_000,
-        library: Box::new(|_| {
-            assert_eq!(boundary::evaluate_file(black_box(EXAMPLE)).refusal, 0);
-        }),
-        second: Box::new(|_| {
-            assert_eq!(second::file::evaluate_file(black_box(EXAMPLE)).refusal, 0);
-        }),
+        library: Box::new(|_| accepted!(boundary::evaluate_file(black_box(EXAMPLE)))),
+        second: Box::new(|_| accepted!(second::file::evaluate_file(black_box(EXAMPLE)))),
     }
+}
+
+fn fresh(register: &[u8]) -> Case {
+    on_register(
+        "a fresh register",
+        10_000,
+        register,
+        |register, _| assert_eq!(boundary::fresh(register), 0),
+        |register, _| assert_eq!(written_again::fresh(register), 0),
+    )
+}
+
+fn strike_and_open(register: &[u8]) -> Case {
+    on_register(
+        "strike a book, then open it",
+        2_000,
+        register,
+        |register, _| {
+            assert_eq!(boundary::strike(register, 1), 0);
+            assert_eq!(boundary::open(register, 1, TERMS), 0);
+        },
+        |register, _| {
+            assert_eq!(written_again::strike(register, 1), 0);
+            assert_eq!(written_again::open(register, 1, TERMS), 0);
+        },
+    )
+}
+
+fn withdraw_and_enter(register: &[u8]) -> Case {
+    on_register(
+        "withdraw, then enter",
+        2_000,
+        register,
+        |register, turn| {
+            let (book, (place, reading)) = (book_of(turn), correction(turn));
+            assert_eq!(boundary::withdraw(register, book, place), 0);
+            assert_eq!(boundary::enter(register, book, place, reading), 0);
+        },
+        |register, turn| {
+            let (book, ([a, b, c], [x, y, h])) = (book_of(turn), correction(turn));
+            assert_eq!(written_again::withdraw(register, book, a, b, c), 0);
+            let refusal = written_again::enter(register, book, a, b, c, x, y, h);
+            assert_eq!(refusal, 0);
+        },
+    )
+}
+
+fn take_back_and_correct(register: &[u8]) -> Case {
+    on_register(
+        "take back, then correct",
+        2_000,
+        register,
+        |register, turn| {
+            let (book, (place, reading)) = (book_of(turn), correction(turn));
+            assert_eq!(boundary::take_back(register, book), 0);
+            assert_eq!(boundary::correct(register, book, place, reading), 0);
+        },
+        |register, turn| {
+            let (book, ([a, b, c], [x, y, h])) = (book_of(turn), correction(turn));
+            assert_eq!(written_again::take_back(register, book), 0);
+            let refusal = written_again::correct(register, book, a, b, c, x, y, h);
+            assert_eq!(refusal, 0);
+        },
+    )
+}
+
+fn correct_and_evaluate(register: &[u8]) -> Case {
+    on_register(
+        "correct, then evaluate",
+        CORRECTIONS / ROUNDS,
+        register,
+        |register, turn| {
+            let (book, (place, reading)) = (book_of(turn), correction(turn));
+            assert_eq!(boundary::correct(register, book, place, reading), 0);
+            accepted!(boundary::evaluate(register, book));
+        },
+        |register, turn| {
+            let (book, ([a, b, c], [x, y, h])) = (book_of(turn), correction(turn));
+            let refusal = written_again::correct(register, book, a, b, c, x, y, h);
+            assert_eq!(refusal, 0);
+            accepted!(written_again::evaluate(register, book));
+        },
+    )
 }
