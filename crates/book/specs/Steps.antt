@@ -32,7 +32,7 @@ stepOf a b = step (refusedAlone a (seen b)) (wordsOr b (next a (seen b)))
 
 -- ---- steps of the code
 
--- what a call on an open book meets: REGISTER or CLOSED; 0 where the book is in form and open
+-- what refuses any call that needs an open book: REGISTER, then CLOSED; 0 where it is in form and open
 unfoldable pub metOf : Book → ℕ
 metOf b = cond (bookForm b) (cond (eqb (b .opened) 0) CLOSED 0) REGISTER
 

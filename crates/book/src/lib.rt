@@ -38,7 +38,7 @@ pub fn in_form(b: Book) -> bool
 }
 
 impl Book {
-    // What a call on an open book meets: REGISTER or CLOSED; 0 where the book is in form and open.
+    // What refuses any call that needs an open book: REGISTER, then CLOSED; 0 where it is in form and open.
     pub fn met(self) -> u64
         ensures { λ r. ⌜ r ≡ metOf self ⌝ }
     {
