@@ -1,4 +1,6 @@
 // The exported calls that change the readings of a book of a lent register. Any bytes and any numbers may be handed in.
+#![tactic(auto)]
+
 ghost use Rattle.paper.specs.Calls.{on, enter, correct, withdraw, take_back};
 ghost use Rattle.lent.specs.Calls.{Calls};
 

@@ -1,5 +1,7 @@
 // The exported calls that ask what stands in a lent register: its form, a reading, a count. Any bytes and any numbers may be handed in.
 // Of a number that is no book's a closed book is asked: beside any refusal the rest of an answer is the same.
+#![tactic(auto)]
+
 ghost use Rattle.std.specs.Prelude.{◌≡◌};
 ghost use Rattle.paper.specs.Calls.{ask, read, changes};
 ghost use Rattle.readings.specs.Answers.{lengths_of, count_of};

@@ -1,4 +1,6 @@
 // What the program prints of the verdict on one axis.
+#![tactic(auto)]
+
 ghost use Rattle.std.specs.Prelude.{[], ◌∷◌, ◌+◌, ◌≤◌, length, pos};
 ghost use Rattle.decimals.specs.Numbers.{line};
 ghost use Rattle.printing.specs.Given.{Put};

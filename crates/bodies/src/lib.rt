@@ -1,4 +1,6 @@
 // The bodies of the three series of a field file, read.
+#![tactic(auto)]
+
 ghost use Rattle.std.specs.Prelude.{◌≡◌, ◌+◌, ◌*◌, ◌≤◌, length, drop};
 ghost use Rattle.paper.specs.Procedure.{IN_SERIES};
 ghost use Rattle.image.specs.Layout.{CELL_WORDS};

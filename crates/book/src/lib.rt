@@ -1,4 +1,6 @@
 // A book by itself, by value: its words, their form, and the acts on it. Any Book at all may be handed in.
+#![tactic(auto)]
+
 ghost use Rattle.std.specs.Prelude.{◌≡◌, [], ◌∷◌, ◌<◌, get_or};
 ghost use Rattle.paper.specs.Procedure.{PLACES};
 ghost use Rattle.paper.specs.Calls.{enter, correct, withdraw, take_back};
@@ -11,7 +13,7 @@ use procedure::{Procedure, Refusal};
 
 // Words: a length is length + 10^12, three words 0 are an empty place; the changes kept for taking back, latest first, are four words
 // each, the place and what stood there.
-#[derive(Drop)]
+#[derive(Clone, Copy)]
 pub struct Book {
     pub opened: u64,
     pub terms: [u64; Layout::TERMS],
@@ -21,7 +23,7 @@ pub struct Book {
 }
 
 // The next book beside a refusal number; beside the refusal of an act the book is the one handed in.
-#[derive(Drop)]
+#[derive(Clone, Copy)]
 pub struct Step {
     pub refusal: u64,
     pub book: Book,
@@ -86,7 +88,7 @@ impl Book {
 }
 
 // Where a call on a place goes: REGISTER, PLACE or CLOSED; or 0 and the number of the place.
-#[derive(Drop)]
+#[derive(Clone, Copy)]
 pub struct Aim {
     pub refusal: u64,
     pub place: usize,

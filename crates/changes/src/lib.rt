@@ -1,4 +1,6 @@
 // The kept changes in a book's words, with one more or one less.
+#![tactic(auto)]
+
 ghost use Rattle.std.specs.Prelude.{◌≡◌, ◌+◌, ◌*◌, ◌<◌, length, get_or};
 ghost use Rattle.paper.specs.Procedure.{PLACES};
 ghost use Rattle.changes.specs.Kept.{pushed, popped, more};

@@ -1,4 +1,6 @@
 // The comparison of two open books in form, from their words.
+#![tactic(auto)]
+
 ghost use Rattle.std.specs.Prelude.{◌≡◌, ◌≤◌};
 ghost use Rattle.paper.specs.Verdicts.{sum, same_population};
 ghost use Rattle.image.specs.Lengths.{terms_of};
@@ -13,7 +15,7 @@ use procedure::Refusal;
 use screen::Found;
 
 // The answer to a comparison.
-#[derive(Drop)]
+#[derive(Clone, Copy)]
 pub struct Compared {
     pub refusal: u64,
     pub series: u64,

@@ -1,4 +1,6 @@
 // What a field file holds: whether it is of the form, and its terms and readings.
+#![tactic(auto)]
+
 ghost use Rattle.std.specs.Prelude.{◌≡◌, length};
 ghost use Rattle.image.specs.Layout.{TERM_WORDS, CELL_WORDS};
 ghost use Rattle.fieldfile.specs.Reader.{whole, read_of};
@@ -12,7 +14,7 @@ use table::Counts;
 pub const LONGEST: usize = 4096;
 
 // The words of a file's terms and readings; of a file that is not of the form, zeros.
-#[derive(Drop)]
+#[derive(Clone, Copy)]
 pub struct Contents {
     pub formed: bool,
     pub terms: [u64; Layout::TERMS],

@@ -1,4 +1,6 @@
 // A number of an ASCII text, read at a place of a slice.
+#![tactic(auto)]
+
 ghost use Rattle.std.specs.Prelude.{◌≤◌, length, drop};
 ghost use Rattle.decimals.specs.Reader.{run, nonzero, number};
 ghost use Rattle.decimals.specs.Given.{Gives, Magnitude, Word};

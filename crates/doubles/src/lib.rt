@@ -1,4 +1,6 @@
 // Sheet, verdicts and marks as doubles, in millimetres.
+#![tactic(auto)]
+
 ghost use Rattle.std.specs.Prelude.{◌≡◌};
 ghost use Rattle.paper.specs.Figures.{doubles};
 ghost use Rattle.paper.specs.Verdicts.{verdict, mark_of};
@@ -57,7 +59,7 @@ fn mark_of(v: Verdict) -> Mark
 }
 
 // The answer to an evaluation, in millimetres.
-#[derive(Drop)]
+#[derive(Clone, Copy)]
 pub struct Evaluated {
     pub refusal: u64,
     pub series: u64,
@@ -95,7 +97,7 @@ pub fn in_millimetres(j: Judgement) -> Evaluated
 
 // The figures of one book in millimetres, and a verdict for xy and for h.
 #[repr(C)]
-#[derive(Drop)]
+#[derive(Clone, Copy)]
 pub struct Evaluation {
     pub refusal: u64,
     pub series: u64,

@@ -1,4 +1,6 @@
 // Evaluates one field file: reads standard input to its end, and writes what document 01 says to standard output.
+#![tactic(auto)]
+
 use input::Got;
 use libc::STDOUT_FILENO;
 

@@ -1,4 +1,6 @@
 // Evaluation and the pass list's test of an open book in form, from its words.
+#![tactic(auto)]
+
 ghost use Rattle.std.specs.Prelude.{◌≡◌};
 ghost use Rattle.std.proofs.Math.Option.{some};
 ghost use Rattle.paper.specs.TurnedAway.{on_list};
@@ -13,7 +15,7 @@ use procedure::Refusal;
 use screen::Found;
 
 // The answer to an evaluation, in whole numbers.
-#[derive(Drop)]
+#[derive(Clone, Copy)]
 pub struct Judgement {
     pub refusal: u64,
     pub series: u64,

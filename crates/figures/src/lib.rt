@@ -1,4 +1,6 @@
 // The figures of a full book in form, and the verdicts on them, in whole numbers, from its sums.
+#![tactic(auto)]
+
 ghost use Rattle.std.specs.Prelude.{◌≡◌, ◌≤◌, ◌<◌};
 ghost use Rattle.paper.specs.Figures.{shown};
 ghost use Rattle.paper.specs.Verdicts.{judged_xy, judged_h, evaluation, both_within};

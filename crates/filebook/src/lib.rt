@@ -1,4 +1,6 @@
 // The book that a field file yields. Any bytes may be handed in; no register is touched.
+#![tactic(auto)]
+
 ghost use Rattle.std.specs.Prelude.{◌≡◌};
 ghost use Rattle.std.proofs.Math.Option.{none};
 ghost use Rattle.book.specs.Meaning.{book_of};

@@ -1,4 +1,6 @@
 // The evaluation of the book that a field file yields, and its report. Any bytes may be handed in; no register is touched.
+#![tactic(auto)]
+
 ghost use Rattle.std.specs.Prelude.{◌≡◌};
 ghost use Rattle.paper.specs.Alone.{evaluated_file};
 ghost use Rattle.figures.specs.Judging.{AllHeld};

@@ -1,4 +1,6 @@
 // The exported call on a field file. Any bytes may be handed in; no register is touched.
+#![tactic(auto)]
+
 ghost use Rattle.std.specs.Prelude.{◌≡◌};
 ghost use Rattle.paper.specs.Alone.{evaluated_file};
 ghost use Rattle.fieldfile.specs.Reader.{read_of};

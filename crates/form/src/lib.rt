@@ -1,4 +1,6 @@
 // The form of a book's words as a whole. Each test is the paper's test of what the words mean.
+#![tactic(auto)]
+
 ghost use Rattle.std.specs.Prelude.{◌≡◌, ◌≤◌, length, drop};
 ghost use Rattle.image.specs.Changes.{zeros};
 ghost use Rattle.form.specs.Whole.{bare, sound, words_form};

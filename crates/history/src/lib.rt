@@ -1,1 +1,2 @@
 // Demand 3 on lent bytes, over the contracts of the exported calls. No code.
+#![tactic(auto)]

@@ -1,8 +1,10 @@
 // How a book lies in words, and a register in bytes. What these mean is in specs/.
+#![tactic(auto)]
+
 use procedure::Procedure;
 
 // The lengths and the places of their parts.
-#[derive(Drop)]
+#[derive(Clone, Copy)]
 pub struct Layout;
 
 impl Layout {
@@ -34,7 +36,7 @@ impl Layout {
 }
 
 // Where each term stands among the twelve.
-#[derive(Drop)]
+#[derive(Clone, Copy)]
 pub struct Term;
 
 impl Term {

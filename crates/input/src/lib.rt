@@ -1,11 +1,13 @@
 // Standard input, read to its end into a lent buffer.
+#![tactic(auto)]
+
 ghost use Rattle.std.specs.Prelude.{◌<◌, ◌≤◌, max, ◌≡◌, length};
 ghost use Rattle.input.specs.Input.{Ends};
 
 use libc::STDIN_FILENO;
 
 // How many bytes a read brought, or that it failed.
-#[derive(Drop)]
+#[derive(Clone, Copy)]
 pub enum Got {
     Bytes(usize),
     Failed,

@@ -1,6 +1,8 @@
 // The exported calls that ask what the readings of a book of a lent register come to: residual, evaluation, comparison of two. Any bytes
 // and any numbers may be handed in.
 // Of a number that is no book's a closed book is asked: beside any refusal the rest of an answer is the same.
+#![tactic(auto)]
+
 ghost use Rattle.std.specs.Prelude.{◌≡◌};
 ghost use Rattle.paper.specs.Calls.{ask, residual, evaluate, compare};
 ghost use Rattle.readings.specs.Answers.{lengths_of};
@@ -43,7 +45,7 @@ pub extern "C" fn rtk_evaluate(register: &[u8], book: u64) -> Evaluation
 
 // Whether two receivers are of the same population.
 #[repr(C)]
-#[derive(Drop)]
+#[derive(Clone, Copy)]
 pub struct Comparison {
     pub refusal: u64,
     pub series: u64,

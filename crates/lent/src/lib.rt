@@ -1,4 +1,6 @@
 // The lent bytes of a register, their form, and the numbers of its books.
+#![tactic(auto)]
+
 ghost use Rattle.std.specs.Prelude.{◌≡◌, ◌≤◌};
 ghost use Rattle.paper.specs.Procedure.{BOOKS};
 ghost use Rattle.paper.specs.Units.{one_to};

@@ -1,4 +1,6 @@
 // Differences of lengths, and the limit of a screening length.
+#![tactic(auto)]
+
 ghost use Rattle.std.specs.Prelude.{◌≡◌, not, ◌+◌, ◌-◌, ◌*◌, ◌^◌, ◌≤◌, ◌<◌, ltb, pos, nat_abs, ◌-ℤ◌};
 ghost use Rattle.whole.specs.Nearest.{nearest_of};
 ghost use Rattle.paper.specs.Screening.{square, passes};

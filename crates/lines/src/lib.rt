@@ -1,4 +1,6 @@
 // Fixed strings and lines of numbers of an ASCII text, read at a place of a slice.
+#![tactic(auto)]
+
 ghost use Rattle.std.specs.Prelude.{◌≡◌, map, ◌+◌, ◌≤◌, length, drop};
 ghost use Rattle.image.specs.Lengths.{word};
 ghost use Rattle.decimals.specs.Numbers.{sep_of};

@@ -1,4 +1,6 @@
 // The pass list of a register in form: gathered anew in every call, and written to a lent buffer.
+#![tactic(auto)]
+
 ghost use Rattle.std.specs.Prelude.{◌≡◌, true, ◌++◌, ◌*◌, ◌≤◌, ◌<◌, length, take, drop};
 ghost use Rattle.std.proofs.Math.Option.{map};
 ghost use Rattle.paper.specs.Procedure.{BOOKS};
@@ -27,7 +29,7 @@ fn on_list(register: &[u8], k: usize) -> bool
 }
 
 // The numbers of the books on the list, rising, and how many they are.
-#[derive(Drop)]
+#[derive(Clone, Copy)]
 pub struct Roll {
     pub numbers: [u8; Procedure::BOOKS],
     pub count: usize,

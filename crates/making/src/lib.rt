@@ -1,4 +1,6 @@
 // A `Book` made anew: a closed one, or an open one with terms and readings.
+#![tactic(auto)]
+
 ghost use Rattle.std.specs.Prelude.{◌≡◌};
 ghost use Rattle.std.proofs.Math.Option.{none};
 ghost use Rattle.book.specs.Meaning.{book_of};

@@ -1,4 +1,6 @@
 // Numbers of any size to what the words of a book hold, and back.
+#![tactic(auto)]
+
 ghost use Rattle.std.specs.Prelude.{◌≡◌, ◌*◌, ◌≤◌, ◌<◌};
 ghost use Rattle.paper.specs.Procedure.{SERIES, SETS, POINTS};
 ghost use Rattle.paper.specs.Units.{terms_given, in_order};

@@ -1,4 +1,6 @@
 // A book opened with terms, and one struck. Any Book at all may be handed in.
+#![tactic(auto)]
+
 ghost use Rattle.std.specs.Prelude.{◌≡◌};
 ghost use Rattle.paper.specs.Calls.{begin, strike};
 ghost use Rattle.paper.specs.Units.{terms_given};

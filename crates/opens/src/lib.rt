@@ -1,4 +1,6 @@
 // The exported calls that open a book of a lent register and strike one. Any bytes and any numbers may be handed in.
+#![tactic(auto)]
+
 ghost use Rattle.paper.specs.Calls.{on, begin, strike};
 ghost use Rattle.paper.specs.Units.{terms_given};
 ghost use Rattle.lent.specs.Calls.{Calls};

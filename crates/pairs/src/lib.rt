@@ -1,4 +1,6 @@
 // What is asked of two books by themselves: comparison. Any two Books at all may be handed in.
+#![tactic(auto)]
+
 ghost use Rattle.std.specs.Prelude.{◌≡◌};
 ghost use Rattle.paper.specs.Alone.{compared_alone};
 ghost use Rattle.book.specs.Meaning.{seen};

@@ -1,5 +1,7 @@
 // The thirty places of a sheet, as tests of words: empty or not, and every reading near its point. Each test is the paper's test of what
 // the words mean.
+#![tactic(auto)]
+
 ghost use Rattle.std.specs.Prelude.{◌≡◌, ◌*◌, ◌<◌, length, eqb};
 ghost use Rattle.paper.specs.Procedure.{PLACES};
 ghost use Rattle.paper.specs.Units.{near_at, all_near, is_empty};

@@ -1,4 +1,6 @@
 // One place in a book's words: three words put there, or put back.
+#![tactic(auto)]
+
 ghost use Rattle.std.specs.Prelude.{◌≡◌, [], ◌∷◌, ◌*◌, ◌<◌, get_or};
 ghost use Rattle.paper.specs.Procedure.{PLACES};
 ghost use Rattle.rows.specs.Paste.{pasted};

@@ -1,4 +1,6 @@
 // Fixed strings and lines of numbers, written into a slice as ASCII.
+#![tactic(auto)]
+
 ghost use Rattle.std.specs.Prelude.{cond, [], ◌∷◌, ◌++◌, map, ◌+◌, ◌≤◌, length};
 ghost use Rattle.image.specs.Lengths.{len};
 ghost use Rattle.decimals.specs.Numbers.{digits, numeral, line};

@@ -1,9 +1,11 @@
 // The numbers of the procedure, of the ranges and of the refusals, as constants of the code; and the test of a number that counts from 1.
+#![tactic(auto)]
+
 ghost use Rattle.std.specs.Prelude.{◌≡◌};
 ghost use Rattle.paper.specs.Units.{one_to};
 ghost use Rattle.procedure.specs.Constants.{numbers, refusals};
 
-#[derive(Drop)]
+#[derive(Clone, Copy)]
 pub struct Procedure;
 
 impl Procedure {
@@ -29,7 +31,7 @@ impl Procedure {
 }
 
 // The ranges of lengths.
-#[derive(Drop)]
+#[derive(Clone, Copy)]
 pub struct Range;
 
 impl Range {
@@ -46,7 +48,7 @@ impl Range {
     pub const NEARBY: u64 = 100000;
 }
 
-#[derive(Drop)]
+#[derive(Clone, Copy)]
 pub struct Numbers {
     pub series: usize,
     pub sets: usize,
@@ -87,7 +89,7 @@ pub fn constants() -> Numbers
 }
 
 // The table of refusals by its names.
-#[derive(Drop)]
+#[derive(Clone, Copy)]
 pub struct Refusal;
 
 impl Refusal {
@@ -120,7 +122,7 @@ impl Refusal {
     pub const FORM: u64 = 14;
 }
 
-#[derive(Drop)]
+#[derive(Clone, Copy)]
 pub struct Refusals {
     pub register: u64,
     pub place: u64,

@@ -1,4 +1,6 @@
 // What is asked of a book by itself: residual and evaluation. Any Book at all may be handed in.
+#![tactic(auto)]
+
 ghost use Rattle.std.specs.Prelude.{◌≡◌, ◌<◌};
 ghost use Rattle.std.proofs.Math.Option.{some};
 ghost use Rattle.paper.specs.Procedure.{PLACES};

@@ -1,5 +1,7 @@
 // The ranges of lengths, as tests of words: the terms, and a reading near its point. Each test is the paper's test of what the words mean.
 // Tests are joined by `&`: all of them are made, so that a function has one way out and a short proof.
+#![tactic(auto)]
+
 ghost use Rattle.std.specs.Prelude.{◌≡◌, ◌&&◌, ◌≤◌, ◌-ℤ◌};
 ghost use Rattle.paper.specs.Procedure.{SPAN};
 ghost use Rattle.paper.specs.Units.{from1_to, up_to, on_earth, within, in_range, near, point_of};

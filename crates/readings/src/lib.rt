@@ -1,4 +1,6 @@
 // What stands at a place of a book, and how many of its changes can be taken back. Any Book at all may be handed in.
+#![tactic(auto)]
+
 ghost use Rattle.std.specs.Prelude.{◌≡◌};
 ghost use Rattle.paper.specs.Units.{zeros};
 ghost use Rattle.paper.specs.Calls.{read, changes};
@@ -11,7 +13,7 @@ use image::Layout;
 use procedure::Refusal;
 
 #[repr(C)]
-#[derive(Drop)]
+#[derive(Clone, Copy)]
 pub struct Lengths {
     pub refusal: u64,
     pub x: i64,
@@ -20,7 +22,7 @@ pub struct Lengths {
 }
 
 #[repr(C)]
-#[derive(Drop)]
+#[derive(Clone, Copy)]
 pub struct Count {
     pub refusal: u64,
     pub count: u64,

@@ -1,4 +1,6 @@
 // The exported calls on a lent register as a whole: its length, a fresh one, the pass list. Any bytes may be handed in.
+#![tactic(auto)]
+
 ghost use Rattle.std.specs.Prelude.{◌≡◌, length, replicate};
 ghost use Rattle.paper.specs.Calls.{fresh, ask, pass_list};
 ghost use Rattle.readings.specs.Answers.{count_of};

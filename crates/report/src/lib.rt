@@ -1,4 +1,6 @@
 // What the program prints of an evaluation.
+#![tactic(auto)]
+
 ghost use Rattle.std.specs.Prelude.{◌≡◌, ◌≤◌, length};
 ghost use Rattle.printing.specs.Given.{Put};
 ghost use Rattle.axes.specs.Given.{Fits, FitsAxis};
@@ -13,7 +15,7 @@ use procedure::Refusal;
 const REPORT: usize = 80;
 
 // The first `len` bytes are the text.
-#[derive(Drop)]
+#[derive(Clone, Copy)]
 pub struct Printed {
     pub bytes: [u8; REPORT],
     pub len: usize,

@@ -1,4 +1,6 @@
 // Rows of numbers: in blocks of one width, pasted over one another, and what holds of each element (specs/, proofs/). The code is one cast.
+#![tactic(auto)]
+
 ghost use Rattle.std.specs.Prelude.{◌≡◌, ◌<◌};
 
 // A byte of a row as a word.

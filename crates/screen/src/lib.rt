@@ -1,4 +1,6 @@
 // The screening of a full book in form, from its words.
+#![tactic(auto)]
+
 ghost use Rattle.std.specs.Prelude.{◌≡◌};
 ghost use Rattle.paper.specs.Screening.{first_suspect};
 ghost use Rattle.image.specs.Lengths.{terms_of};
@@ -10,7 +12,7 @@ use image::{Layout, Term};
 use procedure::Procedure;
 
 // A suspect: its series, its set, and 1 for the distance or 2 for the height.
-#[derive(Drop)]
+#[derive(Clone, Copy)]
 pub enum Found {
     Nowhere,
     At(u64, u64, u64),

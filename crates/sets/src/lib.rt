@@ -1,4 +1,6 @@
 // A set of a full book in form, from its words: whether its distance or its height is suspect.
+#![tactic(auto)]
+
 ghost use Rattle.std.specs.Prelude.{◌≡◌, ◌+◌, ◌≤◌, ◌<◌};
 ghost use Rattle.paper.specs.Procedure.{SERIES, SETS};
 ghost use Rattle.paper.specs.Screening.{suspicious};

@@ -1,4 +1,6 @@
 // A book of a lent register, found by its number.
+#![tactic(auto)]
+
 ghost use Rattle.std.specs.Prelude.{◌≡◌};
 ghost use Rattle.shelf.specs.Steps.{picked_of, others_form, found_of};
 

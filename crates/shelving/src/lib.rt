@@ -1,4 +1,6 @@
 // What refuses a call on a book of a lent register, and the book put back under its number.
+#![tactic(auto)]
+
 ghost use Rattle.std.specs.Prelude.{◌≡◌, length};
 ghost use Rattle.paper.specs.Answers.{unless};
 ghost use Rattle.lent.specs.Image.{LENGTH};

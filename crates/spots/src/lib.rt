@@ -1,4 +1,6 @@
 // A place of a series of a field file, read.
+#![tactic(auto)]
+
 ghost use Rattle.std.specs.Prelude.{◌≡◌, [], ◌∷◌, ◌+◌, ◌≤◌, ◌<◌, length, drop};
 ghost use Rattle.rows.specs.Paste.{pasted};
 ghost use Rattle.paper.specs.Procedure.{IN_SERIES};

@@ -1,4 +1,6 @@
 // What stands at the places, and what stood there before each kept change, as one test of words: the paper's test of what they mean.
+#![tactic(auto)]
+
 ghost use Rattle.std.specs.Prelude.{◌≡◌, ◌&&◌, ◌≤◌};
 ghost use Rattle.paper.specs.Procedure.{KEPT};
 ghost use Rattle.paper.specs.Units.{all_near};

@@ -1,4 +1,6 @@
 // A book in a row of lent bytes: its words loaded, and stored.
+#![tactic(auto)]
+
 ghost use Rattle.std.specs.Prelude.{◌≡◌, ◌∷◌, ◌+◌, ◌*◌, ◌≤◌, length};
 ghost use Rattle.words.specs.Words.{bytes_of};
 ghost use Rattle.rows.specs.Paste.{pasted};

@@ -1,4 +1,6 @@
 // The sums and the residuals of a full book in form, in whole numbers, from its words.
+#![tactic(auto)]
+
 ghost use Rattle.std.specs.Prelude.{◌≡◌, ◌*◌, ◌≤◌, ◌<◌};
 ghost use Rattle.paper.specs.Procedure.{POINTS, ROUNDS, PLACES, NEARBY};
 ghost use Rattle.paper.specs.Units.{place_at};
@@ -30,7 +32,7 @@ fn raised(
 }
 
 // The sum of raised offsets, and the sum of their squares.
-#[derive(Drop)]
+#[derive(Clone, Copy)]
 struct Added {
     s: u64,
     q: u64,
@@ -97,7 +99,7 @@ fn both(terms: &[u64; Layout::TERMS], cells: &[u64; Layout::CELLS], axis: usize)
 }
 
 // Qx, Qy, P and Qh.
-#[derive(Drop)]
+#[derive(Clone, Copy)]
 pub struct Totals {
     pub qx: u64,
     pub qy: u64,

@@ -1,4 +1,6 @@
 // The table of contents of a field file, read.
+#![tactic(auto)]
+
 ghost use Rattle.std.specs.Prelude.{◌≤◌, length, drop};
 ghost use Rattle.decimals.specs.Given.{Gives};
 ghost use Rattle.fieldfile.specs.Reader.{count, table};
@@ -23,7 +25,7 @@ const SERIES2: [u8; 8] = *b"SERIES2 ";
 const SERIES3: [u8; 8] = *b"SERIES3 ";
 
 // The three counts of the table of contents, and the place after it.
-#[derive(Drop)]
+#[derive(Clone, Copy)]
 pub enum Counts {
     Of(u64, u64, u64, usize),
     Bad,

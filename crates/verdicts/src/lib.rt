@@ -1,4 +1,6 @@
 // What the program prints of two verdicts.
+#![tactic(auto)]
+
 ghost use Rattle.std.specs.Prelude.{◌≤◌, length};
 ghost use Rattle.printing.specs.Given.{Put};
 ghost use Rattle.axes.specs.Given.{FitsAxis};

@@ -1,0 +1,11 @@
+-- `comparison::alike` meets its contract. Assumes nothing.
+use native.Mathlib.Omega.{arith}
+use native.Mathlib.Nat.{mul-le-mul}
+use borrow.Author.Rules.{rules}
+use Rattle.comparison.proofs.alike.Goals as goal
+
+pub overflow_mul-least : goal.overflow_mul-least
+overflow_mul-least c = omega (arith, mul-le-mul c.requires.0 c.requires.3)
+
+pub overflow_mul-most : goal.overflow_mul-most
+overflow_mul-most c = omega (arith, mul-le-mul c.requires.1 c.requires.3)

@@ -1,0 +1,10 @@
+-- `limits::most_passing` meets its contract. Assumes nothing.
+use mathlib.Core.Path.{ap, ◌∙◌}
+use borrow.Author.Rules.{rules}
+use Rattle.whole.specs.Greatest.{greatest_of}
+use Rattle.limits.specs.Most.{most_passing}
+use Rattle.limits.proofs.most_passing.Goals as goal
+
+pub returns : goal.returns
+unfolding most_passing
+returns c = c.greatest.ensures.0 ∙ ap (greatest_of 2) c.limit-most.ensures.0

@@ -1,0 +1,21 @@
+-- `listing::on_list`: by whether the book is open.
+-- Assumes nothing.
+use native.Mathlib.Omega.{arith}
+use mathlib.Core.Path.{◌∙◌}
+use Rattle.lent.proofs.Image.{form-length, form-at}
+use Rattle.book.proofs.Opened.{words-formed}
+use Rattle.listing.proofs.Turns.{closed-not, open-passes}
+use borrow.Author.Rules.{rules}
+use Rattle.listing.proofs.on_list.Goals as goal
+
+pub load-b-requires : goal.load-b-requires
+load-b-requires c = omega (arith, form-length _ c.requires.0, c.requires.1)
+
+pub returns-then-opened-eq0 : goal.returns-then-opened-eq0
+returns-then-opened-eq0 c = closed-not _ _ c.load-b.ensures c.if-opened-eq0.true
+
+pub passes-requires : goal.passes-requires
+passes-requires c = words-formed c.load-b.result (record { form = rw c.load-b.ensures (form-at _ _ c.requires.0 c.requires.1); opened = c.if-opened-eq0.false })
+
+pub returns : goal.returns
+returns c = c.passes.ensures ∙ open-passes _ _ c.load-b.ensures c.if-opened-eq0.false

@@ -1,0 +1,22 @@
+-- `places::survey`: the marks before this set are made, and near tells of the readings before it.
+-- Assumes nothing.
+use native.Mathlib.Omega.{arith}
+use borrow.Author.Rules.{rules}
+use mathlib.Core.Path.{◌≡◌, sym, ◌∙◌}
+use mathlib.Core.Bool.{◌&&◌}
+use Prim.Native.Nat.{ℕ, ◌+◌, ◌-◌, ◌*◌, ◌≤◌, ◌<◌}
+use mathlib.Core.List.{List}
+use lib.ListN.{length, set, length-set}
+use Rattle.paper.specs.Procedure.{ROUNDS, PLACES}
+use Rattle.paper.specs.Units.{all_near}
+use Rattle.image.specs.Lengths.{terms_of}
+use Rattle.image.specs.Places.{places_of}
+use Rattle.places.proofs.Turns.{near_from, near-start, near-set, near_end}
+use Rattle.places.proofs.Marks.{MarksTo, marks-set, marks-all}
+use Rattle.places.proofs.survey.Given as goal
+
+abbrev pub invariant-loop-set : goal.invariant-loop-set
+invariant-loop-set l = (l.set ≤ ROUNDS) × (length l.marks ≡ PLACES) × MarksTo (l.set * 2) l.marks l.cells × (l.near && near_from l.cells (terms_of l.t) (l.set * 2) ≡ all_near (terms_of l.t) 0 (places_of l.cells))
+
+abbrev pub decreases-loop-set : goal.decreases-loop-set
+decreases-loop-set l = ROUNDS - l.set

@@ -1,0 +1,13 @@
+-- `whole::root` meets its contract. The invariant: the root lies from low up to high. Assumes nothing.
+use mathlib.Core.Path.{◌≡◌}
+use Prim.Native.Nat.{◌+◌, ◌-◌, ◌*◌, ◌^◌, ◌≤◌, ◌<◌}
+use native.Mathlib.Omega.{arith}
+use borrow.Author.Rules.{rules}
+use Rattle.roots.proofs.Squares.{square-fits}
+use Rattle.roots.proofs.root.Given as goal
+
+abbrev pub invariant-loop-high : goal.invariant-loop-high
+invariant-loop-high l = (l.low * l.low ≤ l.n) × (l.n < l.high * l.high) × (l.low < l.high) × (l.high ≤ 2 ^ 32)
+
+abbrev pub decreases-loop-high : goal.decreases-loop-high
+decreases-loop-high l = l.high - l.low

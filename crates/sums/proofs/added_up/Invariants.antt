@@ -1,0 +1,16 @@
+-- `sums::added_up` meets its contract. The invariant: both sums of what was passed, each with its bound. Assumes nothing.
+use Prim.Native.Nat.{ℕ, ◌-◌, ◌*◌, ◌≤◌}
+use native.Mathlib.Omega.{arith}
+use mathlib.Core.Path.{◌≡◌, ap}
+use borrow.Author.Rules.{rules}
+use Rattle.integers.specs.Sigma.{ΣN}
+use Rattle.paper.specs.Procedure.{ROUNDS, NEARBY}
+use Rattle.sums.specs.Sums.{raised_of}
+use Rattle.sums.proofs.Laws.{sq_step, sum-next, sum-all}
+use Rattle.sums.proofs.added_up.Given as goal
+
+abbrev pub invariant-loop-i : goal.invariant-loop-i
+invariant-loop-i l = (l.i ≤ ROUNDS) × (l.s ≡ ΣN l.i (raised_of l.terms l.cells l.point l.axis)) × (l.q ≡ ΣN l.i (λ (n : ℕ). raised_of l.terms l.cells l.point l.axis n * raised_of l.terms l.cells l.point l.axis n)) × (l.s ≤ 2 * NEARBY * l.i) × (l.q ≤ 2 * NEARBY * l.s)
+
+abbrev pub decreases-loop-i : goal.decreases-loop-i
+decreases-loop-i l = ROUNDS - l.i

@@ -1,0 +1,22 @@
+-- `sums::q_of` meets its contract. Assumes nothing.
+use native.Mathlib.Omega.{arith}
+use native.Mathlib.Nat.{mul-le-mul}
+use borrow.Author.Rules.{rules}
+use Rattle.integers.specs.Sigma.{Q-raised-le}
+use Rattle.paper.specs.Procedure.{ROUNDS}
+use Rattle.sums.proofs.Laws.{most, Q-words}
+use Rattle.sums.proofs.q_of.Goals as goal
+
+pub overflow_mul-result-2 : goal.overflow_mul-result-2
+overflow_mul-result-2 c = let e = c.added_up-sums.ensures in
+    omega (arith, mul-le-mul e.s-most e.s-most)
+
+pub overflow_sub-result : goal.overflow_sub-result
+overflow_sub-result c = let e = c.added_up-sums.ensures in
+    Q-raised-le ROUNDS _ _ _ e.s e.q
+
+pub returns : goal.returns
+returns c = let e = c.added_up-sums.ensures in (
+  Q-words _ _ c.requires.3 _ _ c.requires.0 c.requires.1 c.requires.2 _ _ e.s e.q,
+  most _ _ e.q-most e.s-most,
+)
