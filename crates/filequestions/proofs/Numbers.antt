@@ -14,14 +14,14 @@ use Rattle.paper.specs.Books as paper
 use Rattle.paper.specs.Calls.{evaluate}
 use Rattle.paper.specs.Refusals.{TERMS, CLOSED, FAR, SHORT, SUSPECT, FORM}
 use Rattle.paper.specs.TurnedAway.{is_closed, short, suspect_of, found, lowest, evaluating, evaluated, questioned}
-use Rattle.paper.specs.Answers.{evaluates, Answer, nowhere, named, suspect_in, goal, beside, answered, says, unless}
+use Rattle.paper.specs.Answers.{evaluates, Answer, nowhere, named, suspect_in, given, beside, answered, says, unless}
 use Rattle.paper.specs.Alone as alone
 use Rattle.paper.specs.declared.Evaluation.{Evaluation}
 use Rattle.paper.proofs.Tests.{and_left, and_right}
 use Rattle.evaluation.specs.Evaluating.{judgement_of}
 use Rattle.evaluation.specs.declared.Judgement.{Judgement}
 use Rattle.figures.specs.Judging.{AllHeld}
-use Rattle.axes.specs.Given as goal
+use Rattle.axes.specs.Given as given
 use Rattle.axes.specs.Text.{axis_line}
 use Rattle.verdicts.specs.Text.{verdict_text}
 use Rattle.report.specs.Text.{refusal_numbers, refusal_text, report_text, value_text, report_of}
@@ -70,7 +70,7 @@ pub record Prints (a : Answer) : Type 0 where
   pub suspect : small_suspect a.suspect ≡ true
 
 prints : (n : ℕ) (s : ℕ → Option paper.Sight) → small n ≡ true → Prints (answered n (evaluate 1) s)
-unfolding goal beside suspect_in
+unfolding given beside suspect_in
 prints n s h = record {
   figures = cond (eqb n 0) (evaluated (s 1)) (evaluated none);
   value = values (eqb n 0);
@@ -117,7 +117,7 @@ file_prints c = go (alone.refused_file c) (file_small c)
 -- ---- its text
 
 module _ (a : Answer) (p : Prints a) where
-  refusal-fits : goal.Fits a.refused
+  refusal-fits : given.Fits a.refused
   refusal-fits = omega (arith, leb-true a.refused FORM p.refused)
 
   three : (small a.suspect.series ≡ true) × (small a.suspect.set ≡ true) × (small a.suspect.quantity ≡ true)
@@ -128,7 +128,7 @@ module _ (a : Answer) (p : Prints a) where
       let e = and_left (x && y) z p.suspect in
       (and_left x y e, and_right x y e, and_right (x && y) z p.suspect)
 
-  suspect-fits : goal.Fits a.suspect.series × goal.Fits a.suspect.set × goal.Fits a.suspect.quantity
+  suspect-fits : given.Fits a.suspect.series × given.Fits a.suspect.set × given.Fits a.suspect.quantity
   suspect-fits = (
     omega (arith, leb-true a.suspect.series FORM three.0),
     omega (arith, leb-true a.suspect.set FORM three.1),
@@ -143,7 +143,7 @@ unfolding judgement_of report_of value_text report_text verdict_text axis_line r
 printed_is j a p e = rw (e, p.value)
 
 pub printed-fits : (j : Judgement) (a : Answer) → Prints a → j ≡ judgement_of a → AllHeld j.evaluation
-    → goal.Fits j.refusal × goal.Fits j.series × goal.Fits j.set × goal.Fits j.quantity × goal.FitsAxis j.evaluation.xy × goal.FitsAxis j.evaluation.h
+    → given.Fits j.refusal × given.Fits j.series × given.Fits j.set × given.Fits j.quantity × given.FitsAxis j.evaluation.xy × given.FitsAxis j.evaluation.h
 unfolding judgement_of
 printed-fits j a p e h =
     let s = suspect-fits a p in (

@@ -1,10 +1,10 @@
-// Standard input, read to its end into a lent buffer.
+// An input, read to its end into a lent buffer.
 #![tactic(auto)]
 
-ghost use Rattle.std.specs.Prelude.{◌<◌, ◌≤◌, max, ◌≡◌, length};
-ghost use Rattle.input.specs.Input.{Ends};
+ghost use Rattle.std.specs.Prelude.{◌<◌, ◌≤◌, max, ◌≡◌, length, take, drop};
+ghost use Rattle.input.specs.Input.{Ends, Brings, Holds};
 
-use libc::STDIN_FILENO;
+use std::io::{ErrorKind, Read};
 
 // How many bytes a read brought, or that it failed.
 #[derive(Clone, Copy)]
@@ -13,22 +13,39 @@ pub enum Got {
     Failed,
 }
 
-// One read of standard input into the buffer, from that byte on.
-fn read_once(buffer: &mut [u8], from: usize) -> Got
-    requires { from ≤ length buffer.old }
-    ensures { Ends result from (length buffer.old) }
+// One read. One that a signal interrupts is tried again: it brought nothing, and is not the end.
+fn read_through<R: Read>(reader: &mut R, row: &mut [u8]) -> Got
+    ensures within { Ends result 0 (length row.old) }
+    ensures brings { Brings result (R.remaining reader.old) (R.remaining reader.new) row.new }
 {
-    let got = libc::read(STDIN_FILENO, &mut buffer[from..]);
-    if got < 0 {
-        return Got::Failed;
+    for _ in 0..u64::MAX {
+        match reader.read(row) {
+            Ok(n) => return Got::Bytes(n),
+            Err(e) => {
+                if e.kind() != ErrorKind::Interrupted {
+                    return Got::Failed;
+                }
+            }
+        }
     }
-    Got::Bytes(io::count(got, &buffer[from..]))
+    Got::Failed
+}
+
+// One read into the buffer, from that byte on.
+fn read_once<R: Read>(reader: &mut R, buffer: &mut [u8], from: usize) -> Got
+    requires { from ≤ length buffer.old }
+    ensures within { Ends result from (length buffer.old) }
+    ensures front { take from buffer.new ≡ take from buffer.old }
+    ensures brings { Brings result (R.remaining reader.old) (R.remaining reader.new) (drop from buffer.new) }
+{
+    read_through(reader, &mut buffer[from..])
 }
 
 // Where the next bytes go: behind those that came, or over them where the buffer is full. A buffer that has room at all has some there, so
 // that a read which brings nothing is the end of the input.
 fn next_place(len: usize, room: usize) -> usize
-    ensures { result < max 1 room }
+    ensures bound { result < max 1 room }
+    ensures behind { len < room → result ≡ len }
 {
     if len < room { len } else { 0 }
 }
@@ -41,22 +58,21 @@ fn held(len: usize, end: usize) -> usize
 }
 
 // Reads to the end of the input, however long: of one longer than the buffer, as many bytes are held as the buffer has.
-// A proved loop has to end: it counts its turns down from a number that no run uses up.
-pub fn fill(buffer: &mut [u8]) -> Got
-    ensures { Ends result 0 (length buffer.old) }
+// A proved loop has to end: it has as many turns as no run uses up.
+pub fn fill<R: Read>(reader: &mut R, buffer: &mut [u8]) -> Got
+    ensures within { Ends result 0 (length buffer.old) }
+    ensures holds { Holds result (R.remaining reader.old) (R.remaining reader.new) buffer.new }
 {
     let mut len: usize = 0;
-    let mut turns = u64::MAX;
-    while turns > 0 {
+    for _turn in 0..u64::MAX {
         let from = next_place(len, buffer.len());
-        let Got::Bytes(n) = read_once(buffer, from) else {
+        let Got::Bytes(n) = read_once(reader, buffer, from) else {
             return Got::Failed;
         };
         if n == 0 {
             return Got::Bytes(len);
         }
         len = held(len, from + n);
-        turns -= 1;
     }
     Got::Bytes(len)
 }

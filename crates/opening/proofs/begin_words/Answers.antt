@@ -17,7 +17,7 @@ pub returns-then-b-ne0 : goal.returns-then-b-ne0
 returns-then-b-ne0 c = begin_open _ (sized (goal.at.returns-then-b-ne0 c).Start) (known c.in_form.ensures c.if-in_form.true) _ c.if-b-ne0.true
 
 pub returns-then-in_range : goal.returns-then-in_range
-returns-then-in_range c = let l : length c.args.t2 ≡ 12 = search rules in
+returns-then-in_range c = let l : length c.args.terms ≡ 12 = search rules in
     begun_with _ (sized (goal.at.returns-then-in_range c).Start) (known c.in_form.ensures c.if-in_form.true) _ _ c.if-b-ne0.false (known c.in_range.ensures c.if-in_range.true) (c.filled.ensures ∙ blank-words _ l)
 
 pub returns-then-in_form : goal.returns-then-in_form

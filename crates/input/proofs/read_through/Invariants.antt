@@ -1,0 +1,7 @@
+-- `input::read_through`: a read that failed took nothing.
+-- Assumes nothing.
+use Rattle.std.specs.Io.KnownBytes.{Keeps}
+use Rattle.input.proofs.read_through.Given as goal
+
+abbrev pub invariant-loop : goal.invariant-loop
+invariant-loop g l = Keeps (g.R.Read.remaining l.initial.reader) (g.R.Read.remaining l.reader)
