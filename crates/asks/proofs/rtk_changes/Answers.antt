@@ -6,7 +6,6 @@ use Rattle.readings.specs.Answers.{count_of}
 use Rattle.readings.proofs.Asks.{count-turned}
 use Rattle.shelving.specs.Steps.{turned_away}
 use Rattle.shelf.proofs.Asked.{turned, asked, counts}
-use borrow.Author.Rules.{rules}
 use Rattle.asks.proofs.rtk_changes.Goals as goal
 
 pub returns : goal.returns

@@ -1,7 +1,6 @@
 -- `asks::rtk_check`: by the form of the whole register.
 -- Assumes nothing.
 use Rattle.paper.proofs.Tests.{known}
-use borrow.Author.Rules.{rules}
 use Rattle.asks.proofs.rtk_check.Goals as goal
 
 pub returns-then-formed : goal.returns-then-formed

@@ -1,6 +1,5 @@
 -- `axes::put_figures`: a line of two numbers.
 -- Assumes nothing.
-use borrow.Author.Rules.{rules}
 use mathlib.Core.Path.{ap, sym}
 use mathlib.Core.List.{[], ◌∷◌}
 use Rattle.decimals.specs.Numbers.{line}

@@ -1,10 +1,8 @@
 -- `bodies::series_at`: the places read so far stand in the cells, ahead of those that are left.
 -- Assumes nothing.
-use Prim.Native.Nat.{◌-◌}
 use borrow.Author.Rules.{rules}
-use Rattle.paper.specs.Procedure.{IN_SERIES}
 use Rattle.decimals.proofs.Steps.{not_at}
-use Rattle.bodies.proofs.Steps.{Going, going-none, going_on, going_bad, going-all, going_more}
+use Rattle.bodies.proofs.Steps.{going-none, going_on, going_bad, going-all, going_more}
 use Rattle.bodies.proofs.series_at.Goals as goal
 
 pub loop-k-init : goal.loop-k-init

@@ -1,7 +1,6 @@
 -- `book::in_form`: the form of its words.
 -- Assumes nothing.
 use Rattle.book.specs.Meaning.{book_form}
-use borrow.Author.Rules.{rules}
 use Rattle.book.proofs.in_form.Goals as goal
 
 pub returns : goal.returns

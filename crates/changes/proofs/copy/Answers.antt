@@ -1,10 +1,10 @@
 -- `changes::copy`: the words before i are copied.
 -- Assumes nothing.
-use Prim.Native.Nat.{◌≤◌, ◌<◌, ◌-◌}
+use Prim.Native.Nat.{◌<◌}
 use mathlib.Core.Path.{◌≡◌, refl, ◌∙◌}
-use mathlib.Core.List.{◌++◌, append-nil}
+use mathlib.Core.List.{append-nil}
 use native.Mathlib.Omega.{arith}
-use lib.ListN.{length, take, drop, length-set}
+use lib.ListN.{length, length-set}
 use lib.Seq.{drop-length, take-length}
 use Rattle.rows.proofs.Paste.{copied_more}
 use Rattle.changes.proofs.copy.Goals as goal

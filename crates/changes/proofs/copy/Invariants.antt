@@ -1,12 +1,9 @@
 -- `changes::copy`: the words before i are copied.
 -- Assumes nothing.
-use Prim.Native.Nat.{◌≤◌, ◌<◌, ◌-◌}
-use mathlib.Core.Path.{◌≡◌, refl, ◌∙◌}
-use mathlib.Core.List.{◌++◌, append-nil}
-use native.Mathlib.Omega.{arith}
-use lib.ListN.{length, take, drop, length-set}
-use lib.Seq.{drop-length, take-length}
-use Rattle.rows.proofs.Paste.{copied_more}
+use Prim.Native.Nat.{◌≤◌, ◌-◌}
+use mathlib.Core.Path.{◌≡◌}
+use mathlib.Core.List.{◌++◌}
+use lib.ListN.{length, take, drop}
 use Rattle.changes.proofs.copy.Given as goal
 
 abbrev pub invariant-loop-i : goal.invariant-loop-i

@@ -1,7 +1,6 @@
 -- `changes::one_more`: by whether there is room for one more.
 -- Assumes nothing.
 use borrow.Author.Tests.{lt-ltb, le-ltb}
-use borrow.Author.Rules.{rules}
 use Rattle.changes.proofs.one_more.Goals as goal
 
 pub returns-then-n : goal.returns-then-n

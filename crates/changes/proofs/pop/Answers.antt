@@ -6,7 +6,6 @@ use lib.ListN.{length, drop, length-drop}
 use lib.Seq.{take_all}
 use Rattle.image.specs.Layout.{CHANGE_WORDS}
 use Rattle.changes.specs.Kept.{popped}
-use borrow.Author.Rules.{rules}
 use Rattle.changes.proofs.pop.Goals as goal
 
 pub returns : goal.returns

@@ -1,7 +1,6 @@
 -- `changes::push`: the change, and all but the last behind it.
 -- Assumes nothing.
 use Rattle.changes.proofs.Pushed.{pushed-eq}
-use borrow.Author.Rules.{rules}
 use Rattle.changes.proofs.push.Goals as goal
 
 pub returns : goal.returns

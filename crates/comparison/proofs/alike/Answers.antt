@@ -1,7 +1,6 @@
 -- `comparison::alike` meets its contract. Assumes nothing.
 use native.Mathlib.Omega.{arith}
 use native.Mathlib.Nat.{mul-le-mul}
-use borrow.Author.Rules.{rules}
 use Rattle.comparison.proofs.alike.Goals as goal
 
 pub overflow_mul-least : goal.overflow_mul-least

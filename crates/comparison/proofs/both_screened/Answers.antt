@@ -1,6 +1,5 @@
 -- `comparison::both_screened` meets its contract. Assumes nothing.
 use mathlib.Core.Path.{sym, ◌∙◌}
-use borrow.Author.Rules.{rules}
 use Rattle.comparison.proofs.Comparing.{first_is, second_is, both_clear}
 use Rattle.comparison.proofs.both_screened.Goals as goal
 

@@ -1,6 +1,5 @@
 -- `comparison::by_sums` meets its contract. Assumes nothing.
 use mathlib.Core.Path.{◌∙◌}
-use borrow.Author.Rules.{rules}
 use Rattle.comparison.proofs.Comparing.{sums_zero, sums_same}
 use Rattle.comparison.proofs.by_sums.Goals as goal
 

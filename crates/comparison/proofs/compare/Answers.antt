@@ -1,6 +1,5 @@
 -- `comparison::compare` meets its contract. Assumes nothing.
 use mathlib.Core.Path.{◌∙◌}
-use borrow.Author.Rules.{rules}
 use Rattle.paper.proofs.Tests.{known}
 use Rattle.places.proofs.Meets.{ready}
 use Rattle.comparison.proofs.Comparing.{short-first, short_second, both-full}

@@ -1,6 +1,5 @@
 -- `comparison::same_population` meets its contract. Assumes nothing.
 use mathlib.Core.Path.{◌∙◌}
-use borrow.Author.Rules.{rules}
 use Rattle.comparison.proofs.Comparing.{same_xy, same_h}
 use Rattle.comparison.proofs.same_population.Goals as goal
 

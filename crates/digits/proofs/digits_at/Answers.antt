@@ -1,12 +1,10 @@
 -- `digits::digits_at`: what is left to read gives what the whole gives.
 -- Assumes nothing.
-use Prim.Native.Nat.{ℕ, ◌-◌, ◌≤◌, ◌<◌}
+use Prim.Native.Nat.{ℕ}
 use mathlib.Core.Path.{◌≡◌, refl, ◌∙◌}
 use mathlib.Core.List.{List}
-use native.Mathlib.Omega.{arith}
 use borrow.Author.Rules.{rules}
-use lib.ListN.{length, drop}
-use Rattle.decimals.specs.Numbers.{THIRTEEN_DIGITS}
+use lib.ListN.{drop}
 use Rattle.decimals.specs.Reader.{got, run}
 use Rattle.decimals.specs.Given.{Gives, Magnitude}
 use Rattle.decimals.specs.declared.Read.TheVariants.{At}

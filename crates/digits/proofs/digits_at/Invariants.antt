@@ -1,16 +1,11 @@
 -- `digits::digits_at`: what is left to read gives what the whole gives.
 -- Assumes nothing.
 use Prim.Native.Nat.{ℕ, ◌-◌, ◌≤◌, ◌<◌}
-use mathlib.Core.Path.{◌≡◌, refl, ◌∙◌}
+use mathlib.Core.Path.{◌≡◌}
 use mathlib.Core.List.{List}
-use native.Mathlib.Omega.{arith}
-use borrow.Author.Rules.{rules}
 use lib.ListN.{length, drop}
 use Rattle.decimals.specs.Numbers.{THIRTEEN_DIGITS}
-use Rattle.decimals.specs.Reader.{got, run}
-use Rattle.decimals.specs.Given.{Gives, Magnitude}
-use Rattle.decimals.specs.declared.Read.TheVariants.{At}
-use Rattle.decimals.proofs.Steps.{yes_at, run_on, run_low, run_high, run-full, run_end}
+use Rattle.decimals.specs.Reader.{run}
 use Rattle.digits.proofs.digits_at.Given as goal
 
 -- what is left to read gives what the whole gives

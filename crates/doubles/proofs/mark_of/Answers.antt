@@ -1,7 +1,6 @@
 -- `doubles::mark_of` meets its contract. Assumes nothing.
 use mathlib.Core.Path.{sym, ap}
 use Rattle.paper.specs.Verdicts.{mark_of}
-use borrow.Author.Rules.{rules}
 use Rattle.doubles.proofs.mark_of.Goals as goal
 
 pub returns-in-Within : goal.returns-in-Within

@@ -1,7 +1,6 @@
 -- `doubles::plain`: each part of the answer, and the verdicts as marks.
 -- Assumes nothing.
 use Rattle.doubles.specs.Doubles.{plain_of}
-use borrow.Author.Rules.{rules}
 use Rattle.doubles.proofs.plain.Goals as goal
 
 pub returns : goal.returns

@@ -1,6 +1,5 @@
 -- `evaluation::screened` meets its contract. Assumes nothing.
 use mathlib.Core.Path.{sym, ◌∙◌}
-use borrow.Author.Rules.{rules}
 use Rattle.evaluation.proofs.Evaluating.{suspect_is, clear_is}
 use Rattle.evaluation.proofs.screened.Goals as goal
 

@@ -1,6 +1,5 @@
 -- `figures::both_within` meets its contract. Assumes nothing.
 use native.Mathlib.Omega.{arith}
-use borrow.Author.Rules.{rules}
 use Rattle.image.specs.Lengths.{terms_of}
 use Rattle.figures.proofs.Judging.{both_is}
 use Rattle.figures.proofs.both_within.Goals as goal

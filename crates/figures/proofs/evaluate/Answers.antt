@@ -1,6 +1,5 @@
 -- `figures::evaluate` meets its contract. Assumes nothing.
 use native.Mathlib.Omega.{arith}
-use borrow.Author.Rules.{rules}
 use Rattle.image.specs.Lengths.{terms_of}
 use Rattle.figures.proofs.Judging.{shown-xy, shown-h, evaluation_is}
 use Rattle.figures.proofs.evaluate.Goals as goal

@@ -1,5 +1,4 @@
 -- `figures::figure` meets its contract. Assumes nothing.
-use borrow.Author.Rules.{rules}
 use Rattle.paper.specs.Figures.{shown}
 use Rattle.figures.proofs.figure.Goals as goal
 

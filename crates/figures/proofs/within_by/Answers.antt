@@ -2,7 +2,6 @@
 use Prim.Native.Nat.{◌≤◌}
 use native.Mathlib.Omega.{arith}
 use native.Mathlib.Nat.{mul-le-mul}
-use borrow.Author.Rules.{rules}
 use Rattle.image.specs.Lengths.{ORIGIN}
 use Rattle.figures.proofs.Judging.{sigma², within_by_is}
 use Rattle.figures.proofs.within_by.Goals as goal

@@ -5,7 +5,6 @@ use Rattle.paper.proofs.Tests.{known}
 use Rattle.book.specs.declared.Book.{Book}
 use Rattle.book.specs.Steps.{step}
 use Rattle.filebook.proofs.Ways.{unread, was_read, way-form, way-terms, way-far, way-book}
-use borrow.Author.Rules.{rules}
 use Rattle.filebook.proofs.read_book.Goals as goal
 
 pub returns-then-all_near : goal.returns-then-all_near

@@ -1,6 +1,5 @@
 -- `filebook::refused`: a closed book beside the number.
 -- Assumes nothing.
-use borrow.Author.Rules.{rules}
 use Rattle.filebook.proofs.refused.Goals as goal
 
 pub returns : goal.returns

@@ -2,7 +2,6 @@
 -- Assumes nothing.
 use mathlib.Core.Path.{ap, ◌∙◌}
 use Rattle.doubles.specs.Doubles.{doubled}
-use borrow.Author.Rules.{rules}
 use Rattle.filequestions.proofs.evaluate_file.Goals as goal
 
 pub in_millimetres-requires : goal.in_millimetres-requires

@@ -2,7 +2,6 @@
 -- Assumes nothing.
 use mathlib.Core.Path.{◌∙◌}
 use Rattle.filequestions.proofs.Ways.{file_refused, file_judged}
-use borrow.Author.Rules.{rules}
 use Rattle.filequestions.proofs.judge_file.Goals as goal
 
 pub returns-then-refusal-ne0 : goal.returns-then-refusal-ne0

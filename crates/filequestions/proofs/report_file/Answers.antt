@@ -3,7 +3,6 @@
 use mathlib.Core.Path.{ap, ◌∙◌}
 use Rattle.report.specs.Given.{held}
 use Rattle.filequestions.proofs.Numbers.{file_prints, printed_is, printed-fits}
-use borrow.Author.Rules.{rules}
 use Rattle.filequestions.proofs.report_file.Goals as goal
 
 pub report-requires : goal.report-requires

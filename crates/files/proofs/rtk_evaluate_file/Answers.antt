@@ -3,7 +3,6 @@
 use mathlib.Core.Path.{ap, ◌∙◌}
 use Rattle.evaluation.specs.Evaluating.{judgement_of}
 use Rattle.doubles.specs.Doubles.{doubled, evaluation_of, plain_of}
-use borrow.Author.Rules.{rules}
 use Rattle.files.proofs.rtk_evaluate_file.Goals as goal
 
 pub returns : goal.returns

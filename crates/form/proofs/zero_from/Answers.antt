@@ -1,12 +1,9 @@
 -- `form::zero_from`: what was seen, and what is left to see, give what the whole gives.
 -- Assumes nothing.
-use Prim.Native.Nat.{◌≤◌, ◌<◌, ◌-◌}
+use Prim.Native.Nat.{◌≤◌, ◌<◌}
 use native.Mathlib.Omega.{arith}
-use mathlib.Core.Path.{◌≡◌, refl, sym, ◌∙◌}
-use mathlib.Core.Bool.{◌&&◌}
-use lib.ListN.{length, drop}
-use borrow.Author.Rules.{rules}
-use Rattle.image.specs.Changes.{zeros}
+use mathlib.Core.Path.{refl, sym, ◌∙◌}
+use lib.ListN.{length}
 use Rattle.form.proofs.Turns.{zeros-on, zeros_end}
 use Rattle.form.proofs.zero_from.Goals as goal
 

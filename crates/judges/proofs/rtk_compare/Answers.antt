@@ -2,7 +2,6 @@
 -- Assumes nothing.
 use mathlib.Core.Path.{◌∙◌}
 use Rattle.judges.proofs.Compared.{comparison_asked}
-use borrow.Author.Rules.{rules}
 use Rattle.judges.proofs.rtk_compare.Goals as goal
 
 pub returns : goal.returns

@@ -2,7 +2,6 @@
 -- Assumes nothing.
 use mathlib.Core.Path.{◌∙◌}
 use Rattle.judges.proofs.Evaluated.{evaluation-asked}
-use borrow.Author.Rules.{rules}
 use Rattle.judges.proofs.rtk_evaluate.Goals as goal
 
 pub returns : goal.returns

@@ -7,7 +7,6 @@ use Rattle.readings.specs.Answers.{lengths_of}
 use Rattle.readings.proofs.Asks.{lengths_turned}
 use Rattle.shelving.specs.Steps.{turned_away}
 use Rattle.shelf.proofs.Asked.{turned, asked, residues}
-use borrow.Author.Rules.{rules}
 use Rattle.judges.proofs.rtk_residual.Goals as goal
 
 pub returns : goal.returns

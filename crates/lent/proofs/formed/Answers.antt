@@ -1,7 +1,6 @@
 -- `lent::formed`: every book, from the first to the last.
 -- Assumes nothing.
 use Rattle.lent.specs.Image.{in_form, form_between}
-use borrow.Author.Rules.{rules}
 use Rattle.lent.proofs.formed.Goals as goal
 
 pub returns : goal.returns

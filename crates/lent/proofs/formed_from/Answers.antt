@@ -1,10 +1,10 @@
 -- `lent::formed_from`: what is left to look at gives what the whole gives.
 -- Assumes nothing.
-use Prim.Native.Nat.{◌≤◌, ◌<◌, ◌-◌}
+use Prim.Native.Nat.{◌<◌}
 use native.Mathlib.Omega.{arith}
 use mathlib.Core.Path.{◌≡◌, refl, sym, ◌∙◌}
 use Rattle.paper.proofs.Tests.{known}
-use Rattle.lent.proofs.Image.{form_left, form-on, form_stop, form_end, between_long, between_is}
+use Rattle.lent.proofs.Image.{form-on, form_stop, form_end, between_long, between_is}
 use borrow.Author.Rules.{rules}
 use Rattle.lent.proofs.formed_from.Goals as goal
 

@@ -1,11 +1,8 @@
 -- `lent::formed_from`: what is left to look at gives what the whole gives.
 -- Assumes nothing.
-use Prim.Native.Nat.{◌≤◌, ◌<◌, ◌-◌}
-use native.Mathlib.Omega.{arith}
-use mathlib.Core.Path.{◌≡◌, refl, sym, ◌∙◌}
-use Rattle.paper.proofs.Tests.{known}
-use Rattle.lent.proofs.Image.{form_left, form-on, form_stop, form_end, between_long, between_is}
-use borrow.Author.Rules.{rules}
+use Prim.Native.Nat.{◌≤◌, ◌-◌}
+use mathlib.Core.Path.{◌≡◌}
+use Rattle.lent.proofs.Image.{form_left}
 use Rattle.lent.proofs.formed_from.Given as goal
 
 abbrev pub invariant-loop-k : goal.invariant-loop-k

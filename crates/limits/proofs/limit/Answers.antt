@@ -1,7 +1,6 @@
 -- `limits::limit` meets its contract. Assumes nothing.
 use Prim.Native.Nat.{◌-◌, ◌≤◌}
 use native.Mathlib.Omega.{arith}
-use borrow.Author.Rules.{rules}
 use Rattle.paper.specs.Procedure.{SPREAD}
 use Rattle.image.specs.Lengths.{ORIGIN}
 use Rattle.limits.proofs.Limits.{squared, limit_is}

@@ -1,6 +1,5 @@
 -- `lines::field_at`: a number, and then one byte.
 -- Assumes nothing.
-use borrow.Author.Rules.{rules}
 use mathlib.Core.Path.{◌∙◌}
 use Rattle.decimals.specs.Reader.{field}
 use Rattle.decimals.proofs.Steps.{yes_at, not_at, then-got, then_bad, on, done}

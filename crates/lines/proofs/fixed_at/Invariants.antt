@@ -1,12 +1,9 @@
 -- `lines::fixed_at`: what is left to compare gives what the whole gives.
 -- Assumes nothing.
 use Prim.Native.Nat.{◌-◌, ◌≤◌}
-use mathlib.Core.Path.{◌≡◌, refl, ◌∙◌}
-use borrow.Author.Rules.{rules}
+use mathlib.Core.Path.{◌≡◌}
 use lib.ListN.{length, drop}
 use Rattle.decimals.specs.Reader.{fixed}
-use Rattle.decimals.proofs.Steps.{yes_at, not_at}
-use Rattle.lines.proofs.Steps.{fixed_on, fixed_differs, fixed-short, fixed_end}
 use Rattle.lines.proofs.fixed_at.Given as goal
 
 abbrev pub invariant-loop-j : goal.invariant-loop-j

@@ -1,9 +1,8 @@
 -- `lines::numbers_at`: the numbers read so far stand in the row, ahead of those that are left.
 -- Assumes nothing.
-use Prim.Native.Nat.{◌-◌}
 use borrow.Author.Rules.{rules}
 use Rattle.decimals.proofs.Steps.{not_at}
-use Rattle.lines.proofs.Lines.{Reading, reading-none, reading-on, reading_bad, reading-all}
+use Rattle.lines.proofs.Lines.{reading-none, reading-on, reading_bad, reading-all}
 use Rattle.lines.proofs.numbers_at.Goals as goal
 
 pub loop-k-init : goal.loop-k-init

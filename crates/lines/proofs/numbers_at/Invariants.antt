@@ -1,9 +1,7 @@
 -- `lines::numbers_at`: the numbers read so far stand in the row, ahead of those that are left.
 -- Assumes nothing.
 use Prim.Native.Nat.{◌-◌}
-use borrow.Author.Rules.{rules}
-use Rattle.decimals.proofs.Steps.{not_at}
-use Rattle.lines.proofs.Lines.{Reading, reading-none, reading-on, reading_bad, reading-all}
+use Rattle.lines.proofs.Lines.{Reading}
 use Rattle.lines.proofs.numbers_at.Given as goal
 
 abbrev pub invariant-loop-k : goal.invariant-loop-k

@@ -1,10 +1,9 @@
 -- `listing::listed`: the numbers so far are the list of the books before k.
 -- Assumes nothing.
-use borrow.Author.Rules.{rules}
-use Prim.Native.Nat.{◌≤◌, ◌<◌, ◌-◌}
+use Prim.Native.Nat.{◌<◌}
 use native.Mathlib.Omega.{arith}
 use mathlib.Core.Path.{◌≡◌, refl, ap, ◌∙◌}
-use lib.ListN.{length, take, length-set}
+use lib.ListN.{length-set}
 use Rattle.paper.specs.Procedure.{BOOKS}
 use Rattle.paper.specs.Screening.{each}
 use Rattle.paper.specs.TurnedAway.{passing}

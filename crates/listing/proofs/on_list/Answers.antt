@@ -5,7 +5,6 @@ use mathlib.Core.Path.{◌∙◌}
 use Rattle.lent.proofs.Image.{form-length, form-at}
 use Rattle.book.proofs.Opened.{words-formed}
 use Rattle.listing.proofs.Turns.{closed-not, open-passes}
-use borrow.Author.Rules.{rules}
 use Rattle.listing.proofs.on_list.Goals as goal
 
 pub load-b-requires : goal.load-b-requires

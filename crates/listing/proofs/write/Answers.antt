@@ -1,11 +1,9 @@
 -- `listing::write`: the bytes before i are written.
 -- Assumes nothing.
-use borrow.Author.Rules.{rules}
-use Prim.Native.Nat.{◌≤◌, ◌<◌, ◌-◌}
+use Prim.Native.Nat.{◌<◌}
 use native.Mathlib.Omega.{arith}
-use mathlib.Core.Path.{◌≡◌, refl}
-use mathlib.Core.List.{◌++◌}
-use lib.ListN.{length, take, drop, length-set}
+use mathlib.Core.Path.{refl}
+use lib.ListN.{length, length-set}
 use Rattle.rows.proofs.Paste.{copied_more}
 use Rattle.listing.proofs.Turns.{written_all}
 use Rattle.listing.proofs.write.Goals as goal

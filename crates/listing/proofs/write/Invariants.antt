@@ -1,13 +1,9 @@
 -- `listing::write`: the bytes before i are written.
 -- Assumes nothing.
-use borrow.Author.Rules.{rules}
-use Prim.Native.Nat.{◌≤◌, ◌<◌, ◌-◌}
-use native.Mathlib.Omega.{arith}
-use mathlib.Core.Path.{◌≡◌, refl}
+use Prim.Native.Nat.{◌≤◌, ◌-◌}
+use mathlib.Core.Path.{◌≡◌}
 use mathlib.Core.List.{◌++◌}
-use lib.ListN.{length, take, drop, length-set}
-use Rattle.rows.proofs.Paste.{copied_more}
-use Rattle.listing.proofs.Turns.{written_all}
+use lib.ListN.{length, take, drop}
 use Rattle.listing.proofs.write.Given as goal
 
 abbrev pub invariant-loop-i : goal.invariant-loop-i

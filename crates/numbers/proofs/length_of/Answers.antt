@@ -8,7 +8,6 @@ use mir.Val.{to_z}
 use mir.ValLaws.{to_z-of_z, to_z_pos}
 use Rattle.integers.specs.Diff.{mag_sub, minus-sub}
 use Rattle.image.specs.Lengths.{ORIGIN, len}
-use borrow.Author.Rules.{rules}
 use Rattle.numbers.proofs.length_of.Goals as goal
 use Rattle.numbers.proofs.length_of.Goals.{Start}
 

@@ -2,7 +2,6 @@
 -- Assumes nothing.
 use mathlib.Core.Path.{◌≡◌, ◌∙◌}
 use mathlib.Core.Bool.{◌&&◌}
-use borrow.Author.Rules.{rules}
 use Rattle.paper.specs.Units.{Place, in_sheet, in_order}
 use Rattle.paper.proofs.Tests.{unsheet}
 use Rattle.image.specs.Places.{place_of}

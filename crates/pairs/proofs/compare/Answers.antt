@@ -2,7 +2,6 @@
 use mathlib.Core.Path.{sym, ◌∙◌}
 use Rattle.book.proofs.Opened.{words-formed}
 use Rattle.pairs.proofs.Asks.{Comparable, comparable, compared_refused, compared_open}
-use borrow.Author.Rules.{rules}
 use Rattle.pairs.proofs.compare.Goals as goal
 
 pub returns-then-refusal-ne0 : goal.returns-then-refusal-ne0

@@ -2,7 +2,6 @@
 use mathlib.Core.Path.{sym}
 use Rattle.paper.proofs.Tests.{known}
 use Rattle.pairs.specs.Asked.{refused_of}
-use borrow.Author.Rules.{rules}
 use Rattle.pairs.proofs.refused.Goals as goal
 
 pub returns-then-first-second : goal.returns-then-first-second

@@ -1,14 +1,12 @@
 -- `places::any_empty`: what is left to look at gives what the whole gives.
 -- Assumes nothing.
-use borrow.Author.Rules.{rules}
-use native.Mathlib.Omega.{arith}
-use mathlib.Core.Path.{◌≡◌, sym, ◌∙◌}
+use mathlib.Core.Path.{◌≡◌}
 use Prim.Native.Nat.{◌-◌, ◌≤◌}
 use Rattle.paper.specs.Procedure.{PLACES}
 use Rattle.paper.specs.Units.{is_empty}
 use Rattle.paper.specs.TurnedAway.{some?}
 use Rattle.image.specs.Places.{places_of}
-use Rattle.places.proofs.Turns.{empty_from, empty-start, empty-on, empty_stop, empty_end}
+use Rattle.places.proofs.Turns.{empty_from}
 use Rattle.places.proofs.any_empty.Given as goal
 
 abbrev pub invariant-loop-p : goal.invariant-loop-p

@@ -1,7 +1,6 @@
 -- `places::mark_at`: the mark of whether it is empty.
 -- Assumes nothing.
 use mathlib.Core.Path.{◌∙◌}
-use borrow.Author.Rules.{rules}
 use Rattle.places.proofs.mark_at.Goals as goal
 
 pub returns : goal.returns

@@ -3,16 +3,12 @@
 use native.Mathlib.Omega.{arith}
 use borrow.Author.Rules.{rules}
 use mathlib.Core.Path.{◌≡◌, sym, ◌∙◌}
-use mathlib.Core.Bool.{◌&&◌}
-use Prim.Native.Nat.{ℕ, ◌+◌, ◌-◌, ◌*◌, ◌≤◌, ◌<◌}
+use Prim.Native.Nat.{ℕ, ◌+◌, ◌*◌, ◌<◌}
 use mathlib.Core.List.{List}
 use lib.ListN.{length, set, length-set}
-use Rattle.paper.specs.Procedure.{ROUNDS, PLACES}
-use Rattle.paper.specs.Units.{all_near}
-use Rattle.image.specs.Lengths.{terms_of}
-use Rattle.image.specs.Places.{places_of}
-use Rattle.places.proofs.Turns.{near_from, near-start, near-set, near_end}
-use Rattle.places.proofs.Marks.{MarksTo, marks-set, marks-all}
+use Rattle.paper.specs.Procedure.{PLACES}
+use Rattle.places.proofs.Turns.{near-start, near-set, near_end}
+use Rattle.places.proofs.Marks.{marks-set, marks-all}
 use Rattle.places.proofs.survey.Goals as goal
 
 pub loop-set-init : goal.loop-set-init

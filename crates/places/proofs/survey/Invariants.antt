@@ -1,18 +1,15 @@
 -- `places::survey`: the marks before this set are made, and near tells of the readings before it.
 -- Assumes nothing.
-use native.Mathlib.Omega.{arith}
-use borrow.Author.Rules.{rules}
-use mathlib.Core.Path.{◌≡◌, sym, ◌∙◌}
+use mathlib.Core.Path.{◌≡◌}
 use mathlib.Core.Bool.{◌&&◌}
-use Prim.Native.Nat.{ℕ, ◌+◌, ◌-◌, ◌*◌, ◌≤◌, ◌<◌}
-use mathlib.Core.List.{List}
-use lib.ListN.{length, set, length-set}
+use Prim.Native.Nat.{◌-◌, ◌*◌, ◌≤◌}
+use lib.ListN.{length}
 use Rattle.paper.specs.Procedure.{ROUNDS, PLACES}
 use Rattle.paper.specs.Units.{all_near}
 use Rattle.image.specs.Lengths.{terms_of}
 use Rattle.image.specs.Places.{places_of}
-use Rattle.places.proofs.Turns.{near_from, near-start, near-set, near_end}
-use Rattle.places.proofs.Marks.{MarksTo, marks-set, marks-all}
+use Rattle.places.proofs.Turns.{near_from}
+use Rattle.places.proofs.Marks.{MarksTo}
 use Rattle.places.proofs.survey.Given as goal
 
 abbrev pub invariant-loop-set : goal.invariant-loop-set

@@ -1,7 +1,6 @@
 -- `printing::put_digits`: the digits of m are those of m / 10, and one more.
 -- Assumes nothing.
 use native.Mathlib.Omega.{arith}
-use lib.ListN.{length-set}
 use borrow.Author.Rules.{rules}
 use Prim.Native.Nat.{◌≤◌}
 use Rattle.decimals.proofs.Long.{long_one, long_more}

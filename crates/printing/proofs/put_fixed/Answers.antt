@@ -1,10 +1,6 @@
 -- `printing::put_fixed`: the row with the first j bytes in it.
 -- Assumes nothing.
-use Prim.Native.Nat.{◌-◌, ◌≤◌}
-use mathlib.Core.Path.{◌≡◌}
 use borrow.Author.Rules.{rules}
-use lib.ListN.{length, take}
-use Rattle.rows.specs.Paste.{pasted}
 use Rattle.printing.proofs.Rows.{pasted-start, pasted-take, put_all}
 use Rattle.printing.proofs.put_fixed.Goals as goal
 

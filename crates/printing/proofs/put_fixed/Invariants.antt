@@ -2,10 +2,8 @@
 -- Assumes nothing.
 use Prim.Native.Nat.{◌-◌, ◌≤◌}
 use mathlib.Core.Path.{◌≡◌}
-use borrow.Author.Rules.{rules}
 use lib.ListN.{length, take}
 use Rattle.rows.specs.Paste.{pasted}
-use Rattle.printing.proofs.Rows.{pasted-start, pasted-take, put_all}
 use Rattle.printing.proofs.put_fixed.Given as goal
 
 abbrev pub invariant-loop-j : goal.invariant-loop-j

@@ -1,9 +1,8 @@
 -- `printing::put_numbers`: what is written, ahead of what is left to write, is the whole line.
 -- Assumes nothing.
 use Prim.Native.Nat.{◌-◌}
-use borrow.Author.Rules.{rules}
 use lib.ListN.{length}
-use Rattle.printing.proofs.Lines.{Writing, writing-none, writing-room, writing-on, writing-all}
+use Rattle.printing.proofs.Lines.{Writing}
 use Rattle.printing.proofs.put_numbers.Given as goal
 
 abbrev pub invariant-loop-k : goal.invariant-loop-k

@@ -1,7 +1,6 @@
 -- `questions::evaluate` meets its contract. Assumes nothing.
 use mathlib.Core.Path.{ap, ◌∙◌}
 use Rattle.doubles.specs.Doubles.{doubled}
-use borrow.Author.Rules.{rules}
 use Rattle.questions.proofs.evaluate.Goals as goal
 
 pub returns : goal.returns

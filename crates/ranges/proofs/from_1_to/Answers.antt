@@ -1,7 +1,6 @@
 -- `ranges::from_1_to`: a test of the length as one of its word.
 -- Assumes nothing.
 use Rattle.ranges.proofs.Laws.{one_is}
-use borrow.Author.Rules.{rules}
 use Rattle.ranges.proofs.from_1_to.Goals as goal
 
 pub returns : goal.returns

@@ -2,7 +2,6 @@
 -- Assumes nothing.
 use mathlib.Core.Path.{◌∙◌}
 use Rattle.ranges.proofs.Laws.{and_same, from_zero, range_is}
-use borrow.Author.Rules.{rules}
 use Rattle.ranges.proofs.in_range.Goals as goal
 
 pub returns : goal.returns

@@ -3,7 +3,6 @@
 use mathlib.Core.Path.{◌∙◌}
 use Rattle.image.specs.Lengths.{triple_at}
 use Rattle.ranges.proofs.Laws.{and_same, earth}
-use borrow.Author.Rules.{rules}
 use Rattle.ranges.proofs.points_ok.Goals as goal
 
 pub returns : goal.returns

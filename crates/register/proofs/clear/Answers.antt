@@ -1,11 +1,9 @@
 -- `register::clear`: the bytes before i are 0.
 -- Assumes nothing.
-use borrow.Author.Rules.{rules}
-use Prim.Native.Nat.{◌≤◌, ◌<◌, ◌-◌}
+use Prim.Native.Nat.{◌<◌}
 use native.Mathlib.Omega.{arith}
-use mathlib.Core.Path.{◌≡◌, refl}
-use mathlib.Core.List.{◌++◌}
-use lib.ListN.{length, drop, replicate, length-set}
+use mathlib.Core.Path.{refl}
+use lib.ListN.{length, length-set}
 use borrow.Author.Fill.{fill_more}
 use Rattle.register.proofs.Ways.{cleared_all}
 use Rattle.register.proofs.clear.Goals as goal

@@ -1,13 +1,9 @@
 -- `register::clear`: the bytes before i are 0.
 -- Assumes nothing.
-use borrow.Author.Rules.{rules}
-use Prim.Native.Nat.{◌≤◌, ◌<◌, ◌-◌}
-use native.Mathlib.Omega.{arith}
-use mathlib.Core.Path.{◌≡◌, refl}
+use Prim.Native.Nat.{◌≤◌, ◌-◌}
+use mathlib.Core.Path.{◌≡◌}
 use mathlib.Core.List.{◌++◌}
-use lib.ListN.{length, drop, replicate, length-set}
-use borrow.Author.Fill.{fill_more}
-use Rattle.register.proofs.Ways.{cleared_all}
+use lib.ListN.{length, drop, replicate}
 use Rattle.register.proofs.clear.Given as goal
 
 abbrev pub invariant-loop-i : goal.invariant-loop-i

@@ -5,7 +5,6 @@ use native.Mathlib.Omega.{arith}
 use native.Mathlib.Nat.{lt_of_le_of_lt, div-le_self, le_trans}
 use Rattle.whole.specs.Root.{Root, root-lt, one-root, root_of-root}
 use Rattle.whole.specs.Greatest.{greatest_of}
-use borrow.Author.Rules.{rules}
 use Rattle.roots.proofs.greatest.Goals as goal
 
 below : (n a r : ℕ) → n < 2 ^ 64 → Root (n / a) r → r < 2 ^ 32

@@ -1,8 +1,7 @@
 -- `whole::root` meets its contract. The invariant: the root lies from low up to high. Assumes nothing.
 use mathlib.Core.Path.{◌≡◌}
-use Prim.Native.Nat.{◌+◌, ◌-◌, ◌*◌, ◌^◌, ◌≤◌, ◌<◌}
+use Prim.Native.Nat.{◌+◌}
 use native.Mathlib.Omega.{arith}
-use borrow.Author.Rules.{rules}
 use Rattle.roots.proofs.Squares.{square-fits}
 use Rattle.roots.proofs.root.Goals as goal
 

@@ -1,9 +1,5 @@
 -- `whole::root` meets its contract. The invariant: the root lies from low up to high. Assumes nothing.
-use mathlib.Core.Path.{◌≡◌}
-use Prim.Native.Nat.{◌+◌, ◌-◌, ◌*◌, ◌^◌, ◌≤◌, ◌<◌}
-use native.Mathlib.Omega.{arith}
-use borrow.Author.Rules.{rules}
-use Rattle.roots.proofs.Squares.{square-fits}
+use Prim.Native.Nat.{◌-◌, ◌*◌, ◌^◌, ◌≤◌, ◌<◌}
 use Rattle.roots.proofs.root.Given as goal
 
 abbrev pub invariant-loop-high : goal.invariant-loop-high

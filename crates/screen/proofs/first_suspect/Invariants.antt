@@ -1,13 +1,11 @@
 -- `screen::first_suspect` meets its contract. The invariant: nothing is found, and the series and sets before are clear. Assumes nothing.
 use Prim.Native.Nat.{◌+◌, ◌-◌, ◌≤◌}
-use native.Mathlib.Omega.{arith}
-use mathlib.Core.Path.{◌≡◌, sym, ◌∙◌}
-use borrow.Author.Rules.{rules}
+use mathlib.Core.Path.{◌≡◌}
 use Rattle.paper.specs.Procedure.{SERIES, SETS}
 use Rattle.image.specs.Lengths.{terms_of}
 use Rattle.image.specs.Places.{places_of}
 use Rattle.screen.specs.declared.Found.TheVariants.{Nowhere}
-use Rattle.screen.proofs.Order.{SeriesClear, SetsClear, start, start-row, at-distance, at-height, on, on-series, nowhere}
+use Rattle.screen.proofs.Order.{SeriesClear, SetsClear}
 use Rattle.screen.proofs.first_suspect.Given as goal
 
 abbrev pub invariant-loop-set : goal.invariant-loop-set

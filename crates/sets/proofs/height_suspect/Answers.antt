@@ -2,7 +2,6 @@
 use Prim.Native.Nat.{◌+◌, ◌≤◌}
 use native.Mathlib.Omega.{arith}
 use lib.ListN.{get_or}
-use borrow.Author.Rules.{rules}
 use Rattle.image.specs.Lengths.{ORIGIN}
 use Rattle.sets.specs.Words.{Close}
 use Rattle.sets.proofs.Sets.{bounds, height_is}

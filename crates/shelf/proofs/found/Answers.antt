@@ -2,7 +2,6 @@
 -- Assumes nothing.
 use Rattle.paper.proofs.Tests.{known}
 use Rattle.shelf.specs.Steps.{found_of}
-use borrow.Author.Rules.{rules}
 use Rattle.shelf.proofs.found.Goals as goal
 
 pub returns-then-others_formed : goal.returns-then-others_formed

@@ -4,7 +4,6 @@ use native.Mathlib.Omega.{arith}
 use Rattle.paper.specs.Procedure.{BOOKS}
 use Rattle.paper.proofs.Tests.{among, known}
 use Rattle.shelf.specs.Steps.{others_form}
-use borrow.Author.Rules.{rules}
 use Rattle.shelf.proofs.others_formed.Goals as goal
 
 pub overflow_sub-k : goal.overflow_sub-k

@@ -3,7 +3,6 @@
 use borrow.Author.Tests.{eq-eqb, ne_eqb}
 use Rattle.paper.proofs.Tests.{known}
 use Rattle.shelving.specs.Steps.{turned_away}
-use borrow.Author.Rules.{rules}
 use Rattle.shelving.proofs.turned_away.Goals as goal
 
 pub returns-then-met-eq-REGISTER : goal.returns-then-met-eq-REGISTER

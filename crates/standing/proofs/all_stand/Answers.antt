@@ -2,15 +2,13 @@
 -- Assumes nothing.
 use mir.Syntax.{w64}
 use mir.Val.{Fits}
-use Prim.Native.Nat.{ℕ, ◌-◌, ◌*◌, ◌≤◌, ◌<◌}
+use Prim.Native.Nat.{ℕ, ◌*◌, ◌<◌}
 use native.Mathlib.Omega.{arith}
 use mathlib.Core.Path.{◌∙◌}
 use lib.ListN.{get_or}
 use borrow.Author.Rules.{rules}
 use Rattle.paper.specs.Procedure.{PLACES}
-use Rattle.image.specs.Lengths.{terms_of}
-use Rattle.image.specs.Places.{places_of}
-use Rattle.standing.proofs.Turns.{Stands, stands-start, stands_reaches, stands_on, stands_stop, stands_end}
+use Rattle.standing.proofs.Turns.{stands-start, stands_reaches, stands_on, stands_stop, stands_end}
 use Rattle.standing.proofs.all_stand.Goals as goal
 use Rattle.standing.proofs.all_stand.Goals.{At-loop-j, Start, Then-change_ok}
 

@@ -2,7 +2,6 @@
 -- Assumes nothing.
 use mathlib.Core.Path.{ap, ◌∙◌}
 use Rattle.book.specs.Meaning.{book_form}
-use borrow.Author.Rules.{rules}
 use Rattle.stored.proofs.in_form.Goals as goal
 
 pub returns : goal.returns

@@ -1,7 +1,6 @@
 -- `sums::q_of` meets its contract. Assumes nothing.
 use native.Mathlib.Omega.{arith}
 use native.Mathlib.Nat.{mul-le-mul}
-use borrow.Author.Rules.{rules}
 use Rattle.integers.specs.Sigma.{Q-raised-le}
 use Rattle.paper.specs.Procedure.{ROUNDS}
 use Rattle.sums.proofs.Laws.{most, Q-words}

@@ -3,7 +3,6 @@ use Prim.Native.Nat.{◌*◌, ◌<◌}
 use native.Mathlib.Omega.{arith}
 use mathlib.Core.Path.{◌∙◌}
 use Rattle.paper.specs.Procedure.{ROUNDS}
-use borrow.Author.Rules.{rules}
 use Rattle.integers.specs.Machine.{minus-fits, minus-reads}
 use Rattle.sums.proofs.Laws.{residual_words}
 use Rattle.sums.proofs.residual.Goals as goal

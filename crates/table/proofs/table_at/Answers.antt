@@ -1,6 +1,5 @@
 -- `table::table_at`: two fixed strings, and three counts.
 -- Assumes nothing.
-use borrow.Author.Rules.{rules}
 use Rattle.decimals.specs.Ascii.{ascii}
 use Rattle.table.proofs.Steps.{no-contents, no-terms, no-first, no_second, no_third, all-counts}
 use Rattle.table.proofs.table_at.Goals as goal

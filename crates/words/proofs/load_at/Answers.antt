@@ -1,13 +1,12 @@
 -- `words::load_at`: the words before i are loaded.
 -- Assumes nothing.
-use Prim.Native.Nat.{◌≤◌, ◌<◌, ◌-◌}
+use Prim.Native.Nat.{◌<◌}
 use mathlib.Core.Path.{◌≡◌, refl, ◌∙◌}
-use mathlib.Core.List.{◌++◌, append-nil}
+use mathlib.Core.List.{append-nil}
 use native.Mathlib.Omega.{arith}
-use lib.ListN.{length, drop, length-set}
+use lib.ListN.{length, length-set}
 use lib.Seq.{drop-length}
 use Rattle.rows.specs.Blocks.{blocks}
-use Rattle.words.specs.Words.{words}
 use Rattle.words.proofs.Words.{load_at_turn}
 use Rattle.words.proofs.load_at.Goals as goal
 

@@ -1,14 +1,10 @@
 -- `words::load_at`: the words before i are loaded.
 -- Assumes nothing.
-use Prim.Native.Nat.{◌≤◌, ◌<◌, ◌-◌}
-use mathlib.Core.Path.{◌≡◌, refl, ◌∙◌}
-use mathlib.Core.List.{◌++◌, append-nil}
-use native.Mathlib.Omega.{arith}
-use lib.ListN.{length, drop, length-set}
-use lib.Seq.{drop-length}
-use Rattle.rows.specs.Blocks.{blocks}
+use Prim.Native.Nat.{◌≤◌, ◌-◌}
+use mathlib.Core.Path.{◌≡◌}
+use mathlib.Core.List.{◌++◌}
+use lib.ListN.{length, drop}
 use Rattle.words.specs.Words.{words}
-use Rattle.words.proofs.Words.{load_at_turn}
 use Rattle.words.proofs.load_at.Given as goal
 
 abbrev pub invariant-loop-i : goal.invariant-loop-i

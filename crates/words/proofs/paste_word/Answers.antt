@@ -2,7 +2,6 @@
 -- Assumes nothing.
 use mathlib.Core.Path.{◌∙◌}
 use Rattle.words.proofs.Words.{halves_pasted}
-use borrow.Author.Rules.{rules}
 use Rattle.words.proofs.paste_word.Goals as goal
 
 pub returns : goal.returns

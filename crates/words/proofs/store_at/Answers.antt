@@ -1,13 +1,11 @@
 -- `words::store_at`: the words before i are stored.
 -- Assumes nothing.
-use Prim.Native.Nat.{◌≤◌, ◌<◌, ◌-◌}
+use Prim.Native.Nat.{◌<◌}
 use mathlib.Core.Path.{◌≡◌, refl, sym, ◌∙◌}
 use native.Mathlib.Omega.{arith}
-use lib.ListN.{length, take}
+use lib.ListN.{length}
 use lib.Seq.{take-length}
 use Rattle.rows.specs.Blocks.{laid}
-use Rattle.words.specs.Words.{bytes_of}
-use Rattle.rows.specs.Paste.{pasted}
 use Rattle.rows.proofs.Paste.{pasted-nil}
 use Rattle.words.proofs.Words.{store_at_turn}
 use Rattle.words.proofs.store_at.Goals as goal

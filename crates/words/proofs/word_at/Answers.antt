@@ -2,7 +2,6 @@
 -- Assumes nothing.
 use mathlib.Core.Path.{sym}
 use Rattle.words.proofs.Words.{le_halves}
-use borrow.Author.Rules.{rules}
 use Rattle.words.proofs.word_at.Goals as goal
 
 pub returns : goal.returns

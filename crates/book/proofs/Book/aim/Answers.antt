@@ -7,7 +7,6 @@ use borrow.Author.Tests.{eq-eqb, ne_eqb}
 use Rattle.paper.proofs.Tests.{known}
 use Rattle.image.proofs.Places.{place_out, place_in}
 use Rattle.book.specs.Steps.{aim_of}
-use borrow.Author.Rules.{rules}
 use Rattle.book.proofs.Book.aim.Goals as goal
 
 pub returns-then-place-ge-PLACES : goal.returns-then-place-ge-PLACES

@@ -3,7 +3,6 @@
 use mathlib.Core.Path.{refl}
 use Rattle.book.specs.Steps.{changed_of}
 use Rattle.book.proofs.Meaning.{book-parts}
-use borrow.Author.Rules.{rules}
 use Rattle.book.proofs.Book.changed.Goals as goal
 
 pub returns : goal.returns

@@ -3,7 +3,6 @@
 use borrow.Author.Tests.{eq-eqb, ne_eqb}
 use Rattle.paper.proofs.Tests.{known}
 use Rattle.book.specs.Steps.{met_of}
-use borrow.Author.Rules.{rules}
 use Rattle.book.proofs.Book.met.Goals as goal
 
 pub returns-then-self-eq0 : goal.returns-then-self-eq0
