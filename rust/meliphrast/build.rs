@@ -1,6 +1,7 @@
 //! Links the proved library, which is made first where it is missing or older than its sources.
 
 use std::env;
+use std::fs;
 use std::path::{Path, PathBuf};
 use std::process::Command;
 
@@ -59,8 +60,19 @@ fn made_here() -> PathBuf {
     let package = env::var("CARGO_MANIFEST_DIR").expect("cargo says where the package is");
     let root = Path::new(&package).join("../..");
     let root = root.canonicalize().expect("the repository has a root");
-    for source in ["crates", "crates.txt", MAKER] {
+    for source in ["crates.txt", MAKER] {
         println!("cargo:rerun-if-changed={}", root.join(source).display());
+    }
+    // The sources of each crate, and not what rt makes beside them.
+    let crates = fs::read_dir(root.join("crates")).expect("the repository has crates");
+    for entry in crates {
+        let entry = entry.expect("a crate's folder can be named");
+        for part in ["src", "specs", "proofs"] {
+            let part = entry.path().join(part);
+            if part.is_dir() {
+                println!("cargo:rerun-if-changed={}", part.display());
+            }
+        }
     }
     match Command::new(root.join(MAKER)).status() {
         Ok(status) if status.success() => root.join(FOLDER),
