@@ -24,7 +24,7 @@ use Rattle.image.specs.Changes.{change, entries, change_words}
 use Rattle.image.proofs.Lengths.{words-terms}
 use Rattle.image.proofs.Places.{length-places, place_at_lem, cells_set, words-spot}
 use Rattle.image.proofs.Changes.{length-entries, changes_push}
-use Rattle.image.proofs.Bounds.{near-words, near-short, words_of}
+use Rattle.image.proofs.Bounds.{near-words, near-short, words_of_lem}
 use Rattle.changes.specs.Kept.{pushed, more}
 use Rattle.book.specs.declared.Book.{Book}
 use Rattle.book.specs.declared.Step.{Step}
@@ -87,7 +87,7 @@ module _ (b : Book) (s : Sized b) (p : Place) (q : ℕ) (o : On b p q) where
       go false e = step-refused b a _ s o.form (r ∙ rw (far_is x y h, e))
       go true e =
           let close : near (terms_of b.terms) (point_of q) v ≡ true = sym (near-words (terms_of b.terms) (point_of q) x y h in_range_lem) ∙ e in
-          let w = words_of x y h (near-short (terms_of b.terms) (point_of q) v in_range_lem close) in
+          let w = words_of_lem x y h (near-short (terms_of b.terms) (point_of q) v in_range_lem close) in
           step-done b a (changed_of b q (word_or x ∷ word_or y ∷ word_or h ∷ [])) o.form (r ∙ rw (far_is x y h, e)) (rw (w, ef) (change_is (some v)))
 
 -- ---- the ways out of `placed`

@@ -179,9 +179,9 @@ near-words t k x y h r =
       of_word (λ z. up_to NEARBY (z -ℤ p.h)) false (λ z. far-off p.h z o.h) h,
     )
 
-pub words_of : (x y h : ℤ) → Short (some (record { x = x; y = y; h = h })) → word_or x ∷ word_or y ∷ word_or h ∷ [] ≡ spot_words (some (record { x = x; y = y; h = h }))
+pub words_of_lem : (x y h : ℤ) → Short (some (record { x = x; y = y; h = h })) → word_or x ∷ word_or y ∷ word_or h ∷ [] ≡ spot_words (some (record { x = x; y = y; h = h }))
 unfolding Short spot_words
-words_of x y h f = rw (word_or-word x f.0, word_or-word y f.1, word_or-word h f.2)
+words_of_lem x y h f = rw (word_or-word x f.0, word_or-word y f.1, word_or-word h f.2)
 
 -- ---- terms of any size are in range exactly where their words are, and then the words mean them
 

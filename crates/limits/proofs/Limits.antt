@@ -10,7 +10,8 @@ use lib.Dec.{leb, ltb}
 use lib.IntN.{ℤ, pos, nat_abs, ◌-ℤ◌, sub_ℕ}
 use borrow.Author.Tests.{leb-true, leb-false, le-ltb, lt-ltb, le-leb, lt-leb}
 use Rattle.integers.specs.Diff.{sub-ge, sub-lt, ≤-or-<, minus-sub}
-use Rattle.whole.specs.Greatest.{Greatest, greatest_of, greatest_of-greatest}
+use Rattle.whole.specs.Greatest.{Greatest, greatest_of}
+use Rattle.whole.proofs.Greatest.{greatest_of-greatest}
 use Rattle.whole.specs.Nearest.{nearest_of}
 use Rattle.paper.specs.Screening.{square, passes}
 use Rattle.image.specs.Lengths.{ORIGIN, len}
@@ -53,8 +54,8 @@ beyond_is s d n e = rw e (less_not (25 * square s) (2 * (d * d)))
 
 -- ---- the greatest difference that passes
 
-up_to : (n d : ℕ) → leb (2 * (d * d)) n ≡ leb d (greatest_of 2 n)
-up_to n d = go (greatest_of 2 n) (greatest_of-greatest 2 n (omega arith)) (leb d (greatest_of 2 n)) refl
+up_to_lem : (n d : ℕ) → leb (2 * (d * d)) n ≡ leb d (greatest_of 2 n)
+up_to_lem n d = go (greatest_of 2 n) (greatest_of-greatest 2 n (omega arith)) (leb d (greatest_of 2 n)) refl
   where
     go : (m : ℕ) → Greatest 2 n m → (b : Bool) → leb d m ≡ b → leb (2 * (d * d)) n ≡ b
     go m g true e = le-leb (2 * (d * d)) n (omega (arith, squared (leb-true d m e), g.reaches))
@@ -65,7 +66,7 @@ up_to n d = go (greatest_of 2 n) (greatest_of-greatest 2 n (omega arith)) (leb d
 -- a difference passes exactly up to it
 pub passes-up_to : (s : ℤ) (d : ℕ) → ltb (most_passing s) d ≡ not (passes s d)
 unfolding passes most_passing
-passes-up_to s d = less_not (greatest_of 2 (25 * square s)) d ∙ ap not (sym (up_to (25 * square s) d))
+passes-up_to s d = less_not (greatest_of 2 (25 * square s)) d ∙ ap not (sym (up_to_lem (25 * square s) d))
 
 pub most-le : (s : ℤ) → 25 * square s ≤ 2500000000 → most_passing s ≤ 50000
 unfolding most_passing

@@ -19,7 +19,7 @@ module _ (x y h : ℕ) where
 
   pub spot-near : {a b : Bool} (t : Terms) (p : ℕ) → a ≡ is_empty (spot_of x y h) → b ≡ near t (point_of p) (triple x y h) → a || b ≡ near_at t p (spot_of x y h)
   unfolding spot_of
-  spot-near t p empty Near-by = rw (empty, Near-by) (go (all_zero x y h))
+  spot-near t p empty near_by = rw (empty, near_by) (go (all_zero x y h))
     where
       go : (z : Bool) → is_empty (cond z none (some (triple x y h))) || near t (point_of p) (triple x y h) ≡ near_at t p (cond z none (some (triple x y h)))
       go true = refl

@@ -3,7 +3,8 @@
 use Prim.Native.Nat.{ℕ, ◌/◌, ◌^◌, ◌<◌}
 use native.Mathlib.Omega.{arith}
 use native.Mathlib.Nat.{lt_of_le_of_lt, div-le_self, le_trans}
-use Rattle.whole.specs.Root.{Root, root-lt, one-root, root_of-root}
+use Rattle.whole.specs.Root.{Root}
+use Rattle.whole.proofs.Root.{root-lt, one-root, root_of-root}
 use Rattle.whole.specs.Greatest.{greatest_of}
 use Rattle.roots.proofs.greatest.Goals as goal
 

@@ -2,7 +2,7 @@
 use Prim.Native.Nat.{ℕ, ◌+◌, ◌*◌, ◌^◌, ◌≤◌, ◌<◌}
 use native.Mathlib.Omega.{arith}
 use native.Mathlib.Nat.{mul-le-mul}
-use Rattle.whole.specs.Nearest.{nearest-most}
+use Rattle.whole.proofs.Nearest.{nearest-most}
 use Rattle.roots.proofs.Squares.{square-fits}
 use Rattle.roots.proofs.nearest_at_most.Goals as goal
 
