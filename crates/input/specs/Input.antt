@@ -13,7 +13,8 @@ abbrev pub Brings : Got → Option (List ℕ) → Option (List ℕ) → List ℕ
 Brings (Bytes n) before after row = Consumes before after (take n row) × (n ≡ 0 → 0 < length row → IsAtEnd after)
 Brings Failed before after row = Unit
 
--- as many bytes are held as the row has room for, those of a shorter input are its bytes, and the input was read to its end
+-- as many bytes are held as the row has room for, those of an input shorter than the row are its bytes, and the input was read to its end,
+-- where the row has room at all and the input has fewer bytes than the loop has turns
 abbrev pub Holds : Got → Option (List ℕ) → Option (List ℕ) → List ℕ → Type 0
 Holds (Bytes n) (Some xs) after row =
     (n ≡ min (length xs) (length row)) × (length xs < length row → take n row ≡ xs) × (0 < length row → length xs < 2 ^ 64 - 1 → IsAtEnd after)

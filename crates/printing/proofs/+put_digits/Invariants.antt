@@ -1,4 +1,5 @@
 -- `printing::put_digits`: the measure is m.
+-- Assumes nothing.
 use Rattle.printing.proofs.+put_digits.Given as goal
 
 abbrev pub decreases-put_digits : goal.decreases-put_digits
