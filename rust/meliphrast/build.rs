@@ -55,7 +55,7 @@ fn made_here() -> PathBuf {
     let processor = built_for("ARCH");
     assert_eq!(
         processor, "x86_64",
-        "the proved library is x86-64 code; to test on another processor, `.ci/cargo` emulates it"
+        "the proved library is x86-64 code; where the toolchain brings an emulator, `.ci/cargo` tests on another processor"
     );
     let package = env::var("CARGO_MANIFEST_DIR").expect("cargo says where the package is");
     let root = Path::new(&package).join("../..");

@@ -18,4 +18,4 @@ pub returns-then-left-eq0 : goal.returns-then-left-eq0
 returns-then-left-eq0 c = going-all _ _ _ _ _ c.loop-k.invariant (search rules) (search rules)
 
 pub returns-else-left-eq0 : goal.returns-else-left-eq0
-returns-else-left-eq0 c = not_at (going_more _ _ _ _ _ c.loop-k.invariant (search rules) c.if-left-eq0.false)
+returns-else-left-eq0 c = not_at (going_more _ _ _ _ _ c.loop-k.invariant (search rules) (search rules))

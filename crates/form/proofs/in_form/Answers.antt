@@ -8,7 +8,7 @@ pub returns-then-opened-eq0 : goal.returns-then-opened-eq0
 returns-then-opened-eq0 c = search (form-closed, rules)
 
 pub returns-then-opened-eq1 : goal.returns-then-opened-eq1
-returns-then-opened-eq1 c = form-open _ _ _ _ _ c.if-opened-eq0.false c.if-opened-eq1.true c.sound.ensures
+returns-then-opened-eq1 c = form-open _ _ _ _ _ c.if-opened-eq0.false (search rules) c.sound.ensures
 
 pub returns : goal.returns
-returns c = form_neither _ _ _ _ _ c.if-opened-eq0.false c.if-opened-eq1.false
+returns c = form_neither _ _ _ _ _ c.if-opened-eq0.false (search rules)

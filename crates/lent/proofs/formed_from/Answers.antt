@@ -15,7 +15,7 @@ pub loop-k-init : goal.loop-k-init
 loop-k-init c = (c.requires.0, refl)
 
 pub in_form-requires : goal.in_form-requires
-in_form-requires c = omega (arith, c.if-register-ne-REGISTER.false, c.requires.1)
+in_form-requires c = omega (arith, c.requires.1)
 
 pub loop-k-preserved : goal.loop-k-preserved
 loop-k-preserved c = let at = c.loop-k in
@@ -25,8 +25,8 @@ loop-k-preserved c = let at = c.loop-k in
 pub returns-else-in_form : goal.returns-else-in_form
 returns-else-in_form c = let at = c.loop-k in
     let h : at.k < c.args.to = omega arith in
-    sym (between_is _ _ _ c.if-register-ne-REGISTER.false ∙ at.invariant.1 ∙ form_stop _ c.args.to _ h (known c.in_form.ensures c.if-in_form.false))
+    sym (between_is _ _ _ (search rules) ∙ at.invariant.1 ∙ form_stop _ c.args.to _ h (known c.in_form.ensures c.if-in_form.false))
 
 pub returns : goal.returns
 returns c = let h : c.loop-k.k ≡ c.args.to = omega arith in
-    sym (between_is _ _ _ c.if-register-ne-REGISTER.false ∙ c.loop-k.invariant.1 ∙ form_end _ c.args.to _ h)
+    sym (between_is _ _ _ (search rules) ∙ c.loop-k.invariant.1 ∙ form_end _ c.args.to _ h)

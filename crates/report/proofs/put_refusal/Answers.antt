@@ -20,7 +20,7 @@ pub put_numbers-requires : goal.put_numbers-requires
 unfolding refusal_text ascii
 put_numbers-requires c = let a = c.args in
     let s = suspect a.series a.set a.quantity in
-    room_as _ _ (ap line (numbers-suspect _ s c.if-refusal-eq-SUSPECT.true ∙ sym (lens_up (a.refusal ∷ a.series ∷ a.set ∷ a.quantity ∷ []))))
+    room_as _ _ (ap line (numbers-suspect a.refusal s (search rules) ∙ sym (lens_up (a.refusal ∷ a.series ∷ a.set ∷ a.quantity ∷ []))))
     (second_fits _ 0 REFUSED (line (refusal_numbers a.refusal s)) (starts c.requires.4) c.put_fixed-i.ensures c.put_fixed-i.auto.out)
 
 pub returns-then-refusal-eq-SUSPECT : goal.returns-then-refusal-eq-SUSPECT
@@ -28,13 +28,13 @@ unfolding refusal_text ascii
 returns-then-refusal-eq-SUSPECT c = let a = c.args in
     let s = suspect a.series a.set a.quantity in
     two-put _ 0 REFUSED _ (starts c.requires.4) c.put_fixed-i.ensures
-    (put_as (ap line (numbers-suspect _ s c.if-refusal-eq-SUSPECT.true ∙ sym (lens_up (a.refusal ∷ a.series ∷ a.set ∷ a.quantity ∷ [])))) c.put_numbers.ensures)
+    (put_as (ap line (numbers-suspect a.refusal s (search rules) ∙ sym (lens_up (a.refusal ∷ a.series ∷ a.set ∷ a.quantity ∷ [])))) c.put_numbers.ensures)
 
 pub put_numbers-requires-2 : goal.put_numbers-requires-2
 unfolding refusal_text ascii
 put_numbers-requires-2 c = let a = c.args in
     let s = suspect a.series a.set a.quantity in
-    room_as _ _ (ap line (numbers_other _ s c.if-refusal-eq-SUSPECT.false ∙ sym (lens_up (a.refusal ∷ []))))
+    room_as _ _ (ap line (numbers_other a.refusal s (search rules) ∙ sym (lens_up (a.refusal ∷ []))))
     (second_fits _ 0 REFUSED (line (refusal_numbers a.refusal s)) (starts c.requires.4) c.put_fixed-i.ensures c.put_fixed-i.auto.out)
 
 pub returns : goal.returns
@@ -42,4 +42,4 @@ unfolding refusal_text ascii
 returns c = let a = c.args in
     let s = suspect a.series a.set a.quantity in
     two-put _ 0 REFUSED _ (starts c.requires.4) c.put_fixed-i.ensures
-    (put_as (ap line (numbers_other _ s c.if-refusal-eq-SUSPECT.false ∙ sym (lens_up (a.refusal ∷ [])))) c.put_numbers-2.ensures)
+    (put_as (ap line (numbers_other a.refusal s (search rules) ∙ sym (lens_up (a.refusal ∷ [])))) c.put_numbers-2.ensures)
