@@ -1,12 +1,11 @@
-// The exported calls that change the readings of a book of a lent register. Any bytes and any numbers may be handed in.
+// The calls that change the readings of a book of a lent register. Any bytes and any numbers may be handed in.
 #![tactic(auto)]
 
 ghost use Rattle.paper.specs.Calls.{on, enter, correct, withdraw, take_back};
 ghost use Rattle.lent.specs.Calls.{Calls};
 
 // Enter a reading at an empty place.
-#[unsafe(no_mangle)]
-pub extern "C" fn rtk_enter(
+pub fn rtk_enter(
     register: &mut [u8],
     book: u64,
     series: u64,
@@ -24,8 +23,7 @@ pub extern "C" fn rtk_enter(
 }
 
 // Correct the reading at a filled place.
-#[unsafe(no_mangle)]
-pub extern "C" fn rtk_correct(
+pub fn rtk_correct(
     register: &mut [u8],
     book: u64,
     series: u64,
@@ -43,14 +41,7 @@ pub extern "C" fn rtk_correct(
 }
 
 // Withdraw the reading at a filled place.
-#[unsafe(no_mangle)]
-pub extern "C" fn rtk_withdraw(
-    register: &mut [u8],
-    book: u64,
-    series: u64,
-    set: u64,
-    point: u64,
-) -> u64
+pub fn rtk_withdraw(register: &mut [u8], book: u64, series: u64, set: u64, point: u64) -> u64
     ensures { Calls (on book (withdraw (record { series = series; set = set; point = point }))) register.old result register.new }
 {
     let b = shelf::found(register, book);
@@ -59,8 +50,7 @@ pub extern "C" fn rtk_withdraw(
 }
 
 // Take a book's latest change back.
-#[unsafe(no_mangle)]
-pub extern "C" fn rtk_take_back(register: &mut [u8], book: u64) -> u64
+pub fn rtk_take_back(register: &mut [u8], book: u64) -> u64
     ensures { Calls (on book take_back) register.old result register.new }
 {
     let b = shelf::found(register, book);

@@ -1,4 +1,4 @@
-// The exported calls that ask what stands in a lent register: its form, a reading, a count. Any bytes and any numbers may be handed in.
+// The calls that ask what stands in a lent register: its form, a reading, a count. Any bytes and any numbers may be handed in.
 // Of a number that is no book's a closed book is asked: beside any refusal the rest of an answer is the same.
 #![tactic(auto)]
 
@@ -12,32 +12,29 @@ use procedure::Refusal;
 use readings::{Count, Lengths};
 
 // The form check apart, which every call on books makes first: 0, or REGISTER.
-#[unsafe(no_mangle)]
-pub extern "C" fn rtk_check(register: &[u8]) -> u64
+pub fn rtk_check(register: &[u8]) -> u64
     ensures { result ≡ checked register.now }
 {
     if lent::formed(register) {
         return 0;
     }
-    Refusal::REGISTER
+    Refusal::Register.number()
 }
 
 // What stands at a place.
-#[unsafe(no_mangle)]
-pub extern "C" fn rtk_read(register: &[u8], book: u64, series: u64, set: u64, point: u64) -> Lengths
+pub fn rtk_read(register: &[u8], book: u64, series: u64, set: u64, point: u64) -> Lengths
     ensures { result ≡ lengths_of (called (ask (read book (record { series = series; set = set; point = point }))) register.now).answer }
 {
-    let mut reading = readings::read(shelf::found(register, book), series, set, point);
-    reading.refusal = shelving::turned_away(book, reading.refusal);
-    reading
+    let b = shelf::found(register, book);
+    let reading = readings::read(&b, series, set, point);
+    Lengths::from(shelving::addressed(book, reading))
 }
 
 // How many changes can be taken back.
-#[unsafe(no_mangle)]
-pub extern "C" fn rtk_changes(register: &[u8], book: u64) -> Count
+pub fn rtk_changes(register: &[u8], book: u64) -> Count
     ensures { result ≡ count_of (called (ask (changes book)) register.now).answer }
 {
-    let mut changes = readings::changes(shelf::found(register, book));
-    changes.refusal = shelving::turned_away(book, changes.refusal);
-    changes
+    let b = shelf::found(register, book);
+    let changes = readings::changes(&b);
+    Count::from(shelving::addressed(book, changes))
 }

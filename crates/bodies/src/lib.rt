@@ -1,54 +1,40 @@
 // The bodies of the three series of a field file, read.
 #![tactic(auto)]
 
-ghost use Rattle.std.specs.Prelude.{◌≡◌, ◌+◌, ◌*◌, ◌≤◌, length, drop};
-ghost use Rattle.paper.specs.Procedure.{IN_SERIES};
-ghost use Rattle.image.specs.Layout.{CELL_WORDS};
-ghost use Rattle.image.specs.Places.{cells_of};
-ghost use Rattle.decimals.specs.Given.{Gives, Laid};
+ghost use Rattle.std.specs.Prelude.{◌≡◌, map, slice_index};
+ghost use Rattle.image.specs.Places.{spot_words, cells_of};
+ghost use Rattle.decimals.specs.Given.{read_view, read_as};
 ghost use Rattle.fieldfile.specs.Reader.{series, bodies};
 
-use decimals::Read;
 use image::Layout;
 use procedure::Procedure;
 
-// Where the cells of the second and of the third series begin.
-const SECOND: usize = Layout::READING * Procedure::IN_SERIES;
-
-const THIRD: usize = 2 * SECOND;
-
-// A body of so many lines, into the cells from base on.
-fn series_at(s: &[u8], at: usize, count: u64, cells: &mut [u64], base: usize) -> Read
-    requires { (at ≤ length s.now) × (base + 3 * IN_SERIES ≤ length cells.old) }
-    ensures { Gives (Laid cells_of cells.old base cells.new) s.now at result (series count (drop at s.now)) }
+// A body of so many lines, as the words of its places.
+fn series(s: &[u8], count: u64) -> Option<([[u64; Layout::READING]; Procedure::IN_SERIES], &[u8])>
+    ensures { read_view result ≡ read_as (map spot_words) (series count s.now) }
 {
-    let mut i = at;
+    let mut places = [[0; Layout::READING]; Procedure::IN_SERIES];
+    let mut rest = s;
     let mut left = count;
-    let mut k = 0;
-    while k < Procedure::IN_SERIES {
-        let Read::At(m, n) = spots::spot_at(s, i, k, left, cells, base + Layout::READING * k) else {
-            return Read::Bad;
-        };
-        left = m;
-        i = n;
-        k += 1;
+    for (k, place) in places.iter_mut().enumerate() {
+        let ((words, lines), after) = spots::spot(rest, k, left)?;
+        *place = words;
+        left = lines;
+        rest = after;
     }
-    if left == 0 { Read::At(0, i) } else { Read::Bad }
+    (left == 0).then_some((places, rest))
 }
 
-// The bodies of the three series.
-pub fn bodies_at(s: &[u8], at: usize, a: u64, b: u64, c: u64, cells: &mut [u64]) -> Read
-    requires { (at ≤ length s.now) × (length cells.old ≡ CELL_WORDS) }
-    ensures { Gives (Laid cells_of cells.old 0 cells.new) s.now at result (bodies a b c (drop at s.now)) }
+// The bodies of the three series, with so many lines each, as the cells of their places.
+#[tactic(auto, using(decimals::proofs::Steps::reading), unfolding(fieldfile::specs::Reader::bodies, decimals::specs::Reader::then))]
+pub fn bodies(s: &[u8], lines: [u64; Procedure::SERIES]) -> Option<([u64; Layout::CELLS], &[u8])>
+    ensures { read_view result ≡ read_as cells_of (bodies (slice_index lines 0) (slice_index lines 1) (slice_index lines 2) s.now) }
 {
-    let Read::At(_, i) = series_at(s, at, a, cells, 0) else {
-        return Read::Bad;
-    };
-    let Read::At(_, j) = series_at(s, i, b, cells, SECOND) else {
-        return Read::Bad;
-    };
-    let Read::At(_, k) = series_at(s, j, c, cells, THIRD) else {
-        return Read::Bad;
-    };
-    Read::At(0, k)
+    let [a, b, c] = lines;
+    let (first, rest) = series(s, a)?;
+    let (second, rest) = series(rest, b)?;
+    let (third, rest) = series(rest, c)?;
+    let mut cells = [0; Layout::CELLS];
+    cells.copy_from_slice([first, second, third].as_flattened().as_flattened());
+    Some((cells, rest))
 }

@@ -1,13 +1,7 @@
 -- The ways out of a take-back.
 -- Assumes nothing.
-use Prim.Native.Nat.{ℕ, ◌+◌, ◌*◌, ◌-◌, ◌<◌}
-use native.Mathlib.Omega.{arith}
-use mathlib.Core.Path.{◌≡◌, refl, sym, ◌∙◌, subst}
-use mathlib.Core.Bool.{true}
-use mathlib.Core.List.{List, ◌∷◌}
-use lib.ListN.{length, get_or, drop, length-drop}
-use lib.Seq.{drop-drop}
-use borrow.Author.Tests.{ne_eqb}
+use Rattle.std.proofs.Common.{◌≡◌, refl, sym, ◌∙◌, subst, ℕ, ◌+◌, ◌*◌, ◌-◌, ◌<◌, arith, true, List, ◌∷◌, length, get_or, drop, length-drop, drop-drop, ne_eqb}
+use Rattle.std.specs.Prelude.{Err}
 use Rattle.paper.specs.Procedure.{PLACES, KEPT}
 use Rattle.paper.specs.Books as paper
 use Rattle.paper.specs.Calls.{take_back, undoes, effect, affected}
@@ -20,6 +14,8 @@ use Rattle.image.proofs.Lengths.{words-terms}
 use Rattle.image.proofs.Places.{length-places, cells_set, words-spot}
 use Rattle.image.proofs.Changes.{length-entries, entries-cons, changes_entries, changes_pop}
 use Rattle.changes.specs.Kept.{popped}
+use Rattle.procedure.specs.declared.refusal.Refusal.{Refusal}
+use Rattle.procedure.specs.Refused.{number_of}
 use Rattle.book.specs.declared.Book.{Book}
 use Rattle.book.specs.Meaning.{book_of, open_of, meant}
 use Rattle.book.specs.Steps.{step, step_of, met_of, undone_of}
@@ -27,7 +23,7 @@ use Rattle.book.proofs.Meaning.{Sized, book-parts, Sound, form-sound, meant-open
 use Rattle.book.proofs.Steps.{step-refused, step-done, cell_words, kept-count}
 use Rattle.book.proofs.Opened.{Opened, met_refused}
 
-pub back_refused : (b : Book) → Sized b → (n : ℕ) → n ≡ met_of b → (n ≡ 0 → ⊥) → step n b ≡ step_of take_back b
+pub back_refused : (b : Book) → Sized b → (r : Refusal) → Err r ≡ met_of b → step (number_of r) b ≡ step_of take_back b
 unfolding rules
 back_refused b s = met_refused b take_back _ s refl
 

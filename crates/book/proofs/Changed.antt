@@ -1,21 +1,14 @@
 -- A change: the words that it leaves, and the calls that make one.
 -- Assumes nothing.
-use Prim.Native.Nat.{ℕ, suc, ◌+◌, ◌-◌, ◌*◌, ◌≤◌, min}
-use native.Mathlib.Omega.{arith}
-use mathlib.Core.Path.{◌≡◌, refl, sym, ap, ◌∙◌}
-use mathlib.Core.Bool.{Bool, true, false, cond, not}
-use mathlib.Core.Option.{none, some}
-use mathlib.Core.List.{List, [], ◌∷◌}
-use lib.ListN.{get_or, length-take}
-use lib.Dec.{eqb, ltb}
-use lib.IntN.{ℤ}
-use borrow.Author.Tests.{eq-eqb, ne_eqb, eqb-true, eqb-false, ltb-true, ltb-false}
+use Rattle.std.proofs.Common.{◌≡◌, refl, sym, ap, ◌∙◌, ℕ, suc, ◌+◌, ◌-◌, ◌*◌, ◌≤◌, min, arith, Bool, true, false, cond, not, List, [], ◌∷◌, get_or, length-take, ltb, ltb-true, ltb-false, ℤ}
+use Rattle.std.specs.Prelude.{Result, Ok, Err}
+use Rattle.std.proofs.Math.Option.{none, some}
 use Rattle.paper.specs.Procedure.{KEPT}
 use Rattle.paper.specs.Units.{Triple, Place, in_range, number, point_of, near, Spot}
 use Rattle.paper.specs.Books as paper
 use Rattle.paper.specs.Calls.{Act, enter, correct, withdraw, makes, effect, affected}
-use Rattle.paper.specs.Refusals.{FILLED, EMPTY, FAR}
-use Rattle.paper.specs.TurnedAway.{Rule, ◌when◌, empty, far, lowest, rules}
+use Rattle.paper.specs.Refusals.{FAR}
+use Rattle.paper.specs.TurnedAway.{◌when◌, empty, far, lowest, rules}
 use Rattle.paper.proofs.Tests.{told_point}
 use Rattle.rows.specs.Paste.{pasted}
 use Rattle.image.specs.Lengths.{triple, terms_of, word_or}
@@ -26,14 +19,16 @@ use Rattle.image.proofs.Places.{length-places, place_at_lem, cells_set, words-sp
 use Rattle.image.proofs.Changes.{length-entries, changes_push}
 use Rattle.image.proofs.Bounds.{near-words, near-short, words_of_lem}
 use Rattle.changes.specs.Kept.{pushed, more}
+use Rattle.procedure.specs.declared.refusal.Refusal.{Refusal}
+use Rattle.procedure.specs.declared.refusal.Refusal.TheVariants as is
 use Rattle.book.specs.declared.Book.{Book}
-use Rattle.book.specs.declared.Step.{Step}
-use Rattle.book.specs.declared.Aim.{Aim}
+use Rattle.book.proofs.Wanted.{Wanted, wanted_of}
+use Rattle.book.proofs.Wanted as want
 use Rattle.book.specs.Meaning.{book_of, open_of, meant}
-use Rattle.book.specs.Steps.{step, step_of, sought_of, changed_of, put_of, placed_of}
+use Rattle.book.specs.Steps.{step, step_of, stepped, changed_of, placed_of}
 use Rattle.book.proofs.Meaning.{Sized, book-parts, Sound, form-sound, meant-open}
 use Rattle.book.proofs.Steps.{sight_o, step-refused, step-done, kept-words, cell_words, ranged}
-use Rattle.book.proofs.Sought.{On, placed, place-small, sought-on, sought-refused, sought_rest}
+use Rattle.book.proofs.Sought.{On, placed, place-small, unless_wanted, sought-on, sought-refused, sought_rest}
 
 -- ---- a place of an open book
 
@@ -72,8 +67,8 @@ module _ (b : Book) (s : Sized b) (p : Place) (q : ℕ) (o : On b p q) where
   -- ---- an act that puts a reading where it may stand: FAR, or the change
   placed_is : (a : Act) (x y h : ℤ) → effect a ≡ makes (change (number p) (some (record { x = x; y = y; h = h })))
       → lowest (rules a (sight_o b)) ≡ lowest (FAR when far p (record { x = x; y = y; h = h }) (sight_o b) ∷ [])
-      → put_of b q (word_or x) (word_or y) (word_or h) ≡ step_of a b
-  unfolding lowest
+      → stepped b (placed_of b q (word_or x) (word_or y) (word_or h)) ≡ step_of a b
+  unfolding lowest placed_of
   placed_is a x y h ef r = go (near (terms_of b.terms) (point_of q) (triple (word_or x) (word_or y) (word_or h))) refl
     where
       v : Triple
@@ -83,73 +78,53 @@ module _ (b : Book) (s : Sized b) (p : Place) (q : ℕ) (o : On b p q) where
       in_range_lem = ranged b s sound
 
       go : (n : Bool) → near (terms_of b.terms) (point_of q) (triple (word_or x) (word_or y) (word_or h)) ≡ n
-          → cond n (step 0 (changed_of b q (word_or x ∷ word_or y ∷ word_or h ∷ []))) (step FAR b) ≡ step_of a b
+          → stepped b (cond n (Ok (changed_of b q (word_or x ∷ word_or y ∷ word_or h ∷ []))) (Err is.Far)) ≡ step_of a b
       go false e = step-refused b a _ s o.form (r ∙ rw (far_is x y h, e))
       go true e =
           let close : near (terms_of b.terms) (point_of q) v ≡ true = sym (near-words (terms_of b.terms) (point_of q) x y h in_range_lem) ∙ e in
           let w = words_of_lem x y h (near-short (terms_of b.terms) (point_of q) v in_range_lem close) in
           step-done b a (changed_of b q (word_or x ∷ word_or y ∷ word_or h ∷ [])) o.form (r ∙ rw (far_is x y h, e)) (rw (w, ef) (change_is (some v)))
 
--- ---- the ways out of `placed`
-
-module _ (b : Book) (a : Aim) where
-  pub placed-refused : (x y h : ℕ) → (a.refusal ≡ 0 → ⊥) → step a.refusal b ≡ placed_of b a x y h
-  unfolding placed_of
-  placed-refused x y h n = rw (ne_eqb a.refusal 0 n)
-
-  module _ (x y h x' y' h' : ℕ) (r : Bool) (z : a.refusal ≡ 0) (ex : x ≡ x') (ey : y ≡ y') (eh : h ≡ h') (e : r ≡ near (terms_of b.terms) (point_of a.place) (triple x y h)) where
-    pub placed-near : (b' : Book) → r ≡ true → b' ≡ changed_of b a.place (x ∷ y ∷ h ∷ []) → step 0 b' ≡ placed_of b a x' y' h'
-    unfolding placed_of
-    placed-near b' t u = rw (← ex, ← ey, ← eh, eq-eqb a.refusal 0 z, ← e, t, u)
-
-    pub placed-far : r ≡ false → step FAR b ≡ placed_of b a x' y' h'
-    unfolding placed_of
-    placed-far t = rw (← ex, ← ey, ← eh, eq-eqb a.refusal 0 z, ← e, t)
-
 -- ---- an act on a place sought
 
-module _ (b : Book) (p : Place) (e f : ℕ) (s : Sized b) (a : Act) (m : ℕ) (t : Bool) (rest : List Rule) (g : rules a (sight_o b) ≡ placed b p (suc m when t ∷ rest)) (k : cond (empty p (sight_o b)) e f ≡ cond t (suc m) 0) where
+module _ (b : Book) (s : Sized b) (p : Place) (q : ℕ) where
   -- a reading put where it goes, whose three words are those of x, y and h
-  placed-step : (c : Aim) (x y h x' y' h' : ℤ) → c ≡ sought_of b p e f → x' ≡ x → y' ≡ y → h' ≡ h
+  placed-step : (w : Wanted) (a : Act) (x y h x' y' h' : ℤ) → Ok q ≡ wanted_of b p w → x' ≡ x → y' ≡ y → h' ≡ h
       → effect a ≡ makes (change (number p) (some (record { x = x; y = y; h = h })))
-      → rest ≡ FAR when far p (record { x = x; y = y; h = h }) (sight_o b) ∷ []
-      → (r : Step) → r ≡ placed_of b c (word_or x') (word_or y') (word_or h')
-      → r ≡ step_of a b
-  unfolding placed_of
-  placed-step c x y h x' y' h' u ex ey eh ef l r er = er ∙ rw (ex, ey, eh) (go (eqb c.refusal 0) refl)
-    where
-      go : (i : Bool) → eqb c.refusal 0 ≡ i → cond i (put_of b c.place (word_or x) (word_or y) (word_or h)) (step c.refusal b) ≡ step_of a b
-      go false w = sought-refused b p e f s a m t rest g k c u (eqb-false c.refusal 0 w)
-      go true w =
-          let o = sought-on b p e f c u (eqb-true c.refusal 0 w) in
-          placed_is b s p c.place o.0 a x y h ef (sought_rest b p e f s a m t rest g k c.place o.0 o.1 ∙ ap lowest l)
+      → rules a (sight_o b) ≡ placed b p (unless_wanted w (empty p (sight_o b)) ∷ FAR when far p (record { x = x; y = y; h = h }) (sight_o b) ∷ [])
+      → (r : Result Book Refusal) → r ≡ placed_of b q (word_or x') (word_or y') (word_or h')
+      → stepped b r ≡ step_of a b
+  placed-step w a x y h x' y' h' u ex ey eh ef l r er =
+      let o = sought-on b p w q u in
+      rw (er, ex, ey, eh) (placed_is b s p q o.on a x y h ef (sought_rest b p w s a _ l q o))
 
--- ---- enter, correct, withdraw
-
-module _ (b : Book) (s : Sized b) (p : Place) where
-  pub entered : (a : Aim) (x y h x' y' h' : ℤ) → a ≡ sought_of b p 0 FILLED → x' ≡ x → y' ≡ y → h' ≡ h
-      → (r : Step) → r ≡ placed_of b a (word_or x') (word_or y') (word_or h') → r ≡ step_of (enter p (record { x = x; y = y; h = h })) b
+  pub entered : (x y h x' y' h' : ℤ) → Ok q ≡ wanted_of b p want.Empty → x' ≡ x → y' ≡ y → h' ≡ h
+      → (r : Result Book Refusal) → r ≡ placed_of b q (word_or x') (word_or y') (word_or h') → stepped b r ≡ step_of (enter p (record { x = x; y = y; h = h })) b
   unfolding rules effect
-  entered a x y h x' y' h' u ex ey eh =
-      placed-step b p 0 FILLED s (enter p (record { x = x; y = y; h = h })) _ (not (empty p (sight_o b))) _ refl (turned (empty p (sight_o b))) a x y h x' y' h' u ex ey eh refl refl
-    where
-      turned : (i : Bool) → ◌≡◌ {A = ℕ} (cond i 0 FILLED) (cond (not i) FILLED 0)
-      turned true = refl
-      turned false = refl
+  entered x y h x' y' h' u ex ey eh = placed-step want.Empty (enter p (record { x = x; y = y; h = h })) x y h x' y' h' u ex ey eh refl refl
 
-  pub corrected : (a : Aim) (x y h x' y' h' : ℤ) → a ≡ sought_of b p EMPTY 0 → x' ≡ x → y' ≡ y → h' ≡ h
-      → (r : Step) → r ≡ placed_of b a (word_or x') (word_or y') (word_or h') → r ≡ step_of (correct p (record { x = x; y = y; h = h })) b
+  pub corrected : (x y h x' y' h' : ℤ) → Ok q ≡ wanted_of b p want.Filled → x' ≡ x → y' ≡ y → h' ≡ h
+      → (r : Result Book Refusal) → r ≡ placed_of b q (word_or x') (word_or y') (word_or h') → stepped b r ≡ step_of (correct p (record { x = x; y = y; h = h })) b
   unfolding rules effect
-  corrected a x y h x' y' h' u ex ey eh =
-      placed-step b p EMPTY 0 s (correct p (record { x = x; y = y; h = h })) _ (empty p (sight_o b)) _ refl refl a x y h x' y' h' u ex ey eh refl refl
+  corrected x y h x' y' h' u ex ey eh = placed-step want.Filled (correct p (record { x = x; y = y; h = h })) x y h x' y' h' u ex ey eh refl refl
 
-  pub withdraw_refused : (a : Aim) → a ≡ sought_of b p EMPTY 0 → (a.refusal ≡ 0 → ⊥) → step a.refusal b ≡ step_of (withdraw p) b
-  unfolding rules
-  withdraw_refused = sought-refused b p EMPTY 0 s (withdraw p) _ (empty p (sight_o b)) [] refl refl
-
-  pub withdrawn : (a : Aim) → a ≡ sought_of b p EMPTY 0 → a.refusal ≡ 0 → step 0 (changed_of b a.place (0 ∷ 0 ∷ 0 ∷ [])) ≡ step_of (withdraw p) b
+  pub withdrawn : Ok q ≡ wanted_of b p want.Filled → (b' : Book) → b' ≡ changed_of b q (0 ∷ 0 ∷ 0 ∷ []) → step 0 b' ≡ step_of (withdraw p) b
   unfolding rules effect lowest spot_words
-  withdrawn a u z =
-      let o = sought-on b p EMPTY 0 a u z in
-      step-done b (withdraw p) (changed_of b a.place (0 ∷ 0 ∷ 0 ∷ [])) o.0.form
-      (sought_rest b p EMPTY 0 s (withdraw p) _ (empty p (sight_o b)) [] refl refl a.place o.0 o.1) (change_is b s p a.place o.0 none)
+  withdrawn u b' e =
+      let o = sought-on b p want.Filled q u in
+      step-done b (withdraw p) b' o.on.form (sought_rest b p want.Filled s (withdraw p) [] refl q o) (e ∙ change_is b s p q o.on none)
+
+-- ---- what refuses them
+
+module _ (b : Book) (s : Sized b) (p : Place) (r : Refusal) where
+  pub enter_refused : (v : Triple) → Err r ≡ wanted_of b p want.Empty → stepped b (Err r) ≡ step_of (enter p v) b
+  unfolding rules
+  enter_refused v = sought-refused b p want.Empty s (enter p v) _ refl r
+
+  pub correct_refused : (v : Triple) → Err r ≡ wanted_of b p want.Filled → stepped b (Err r) ≡ step_of (correct p v) b
+  unfolding rules
+  correct_refused v = sought-refused b p want.Filled s (correct p v) _ refl r
+
+  pub withdraw_refused : Err r ≡ wanted_of b p want.Filled → stepped b (Err r) ≡ step_of (withdraw p) b
+  unfolding rules
+  withdraw_refused = sought-refused b p want.Filled s (withdraw p) _ refl r

@@ -5,3 +5,4 @@ pub mod Sought
 pub mod Changed
 pub mod Back
 pub mod Kept
+pub mod Wanted

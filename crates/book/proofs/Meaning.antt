@@ -33,6 +33,9 @@ pub record Sized (b : Book) : Type 0 where
   pub cells : length b.cells ≡ CELL_WORDS
   pub changes : length b.changes ≡ CHANGE_WORDS
 
+pub sized : (b : Book) → length b.terms ≡ TERM_WORDS → length b.cells ≡ CELL_WORDS → length b.changes ≡ CHANGE_WORDS → Sized b
+sized b t c h = record { terms = t; cells = c; changes = h }
+
 pub book-parts : (o o' : ℕ) (t t' ce ce' : List ℕ) (k k' : ℕ) (ch ch' : List ℕ) → o ≡ o' → t ≡ t' → ce ≡ ce' → k ≡ k' → ch ≡ ch'
     → ◌≡◌ {A = Book} (record { opened = o; terms = t; cells = ce; kept = k; changes = ch }) (record { opened = o'; terms = t'; cells = ce'; kept = k'; changes = ch' })
 book-parts o o' t t' ce ce' k k' ch ch' e₀ e₁ e₂ e₃ e₄ = rw (e₀, e₁, e₂, e₃, e₄)

@@ -1,7 +1,6 @@
 -- What an act makes of a book by itself: the paper's refusal, and the words of the paper's next book, or the book handed in.
-use Rattle.std.specs.Prelude.{ℕ, ◌+◌, ◌*◌, ◌-◌, cond, List, [], ◌∷◌, get_or, eqb}
-use Rattle.std.proofs.Math.Option.{Option, none, some}
-use Rattle.paper.specs.Refusals.{REGISTER, PLACE, CLOSED, FAR}
+use Rattle.std.specs.Prelude.{ℕ, ◌+◌, ◌*◌, ◌-◌, Bool, cond, List, [], ◌∷◌, get_or, eqb, Option, Some, None, Result, Ok, Err}
+use Rattle.std.proofs.Math.Option as math
 use Rattle.paper.specs.Units.{Place, in_sheet, number, point_of, is_empty, near}
 use Rattle.paper.specs.Books as paper
 use Rattle.paper.specs.Calls.{Act}
@@ -10,40 +9,50 @@ use Rattle.rows.specs.Paste.{pasted}
 use Rattle.image.specs.Lengths.{triple, terms_of}
 use Rattle.image.specs.Places.{spot_at}
 use Rattle.changes.specs.Kept.{pushed, popped, more}
+use Rattle.procedure.specs.declared.refusal.Refusal.{Refusal}
+use Rattle.procedure.specs.declared.refusal.Refusal.TheVariants as is
+use Rattle.procedure.specs.Refused.{number_of}
 use Rattle.book.specs.declared.Book.{Book}
 use Rattle.book.specs.declared.Step.{Step}
-use Rattle.book.specs.declared.Aim.{Aim}
 use Rattle.book.specs.Meaning.{book_of, book_form, seen}
 
 abbrev pub step : ℕ → Book → Step
 step n b = record { refusal = n; book = b }
 
 -- the words of the next book; those handed in where they are not in form
-abbrev pub words_or : Book → Option (Option paper.Book) → Book
-words_or b none = b
-words_or b (some o) = book_of o
+abbrev pub words_or : Book → math.Option (math.Option paper.Book) → Book
+words_or b math.none = b
+words_or b (math.some o) = book_of o
 
 unfoldable pub step_of : Act → Book → Step
 step_of a b = step (refused_alone a (seen b)) (words_or b (next a (seen b)))
 
 -- ---- steps of the code
 
--- what refuses any call that needs an open book: REGISTER, then CLOSED; 0 where it is in form and open
-unfoldable pub met_of : Book → ℕ
-met_of b = cond (book_form b) (cond (eqb b.opened 0) CLOSED 0) REGISTER
+-- the next book; beside a refusal the one handed in
+abbrev pub stepped : Book → Result Book Refusal → Step
+stepped b (Ok next) = step 0 next
+stepped b (Err r) = step (number_of r) b
+
+-- what any call that needs an open book meets: REGISTER, then CLOSED
+unfoldable pub met_of : Book → Result (Unit {0}) Refusal
+met_of b = cond (book_form b) (cond (eqb b.opened 0) (Err is.Closed) (Ok tt)) (Err is.Register)
 
 -- the same of a call on a place, with PLACE between the two; or the number of the place
-abbrev pub aim : ℕ → ℕ → Aim
-aim n p = record { refusal = n; place = p }
+unfoldable pub aim_of : Book → Place → Result ℕ Refusal
+aim_of b p = cond (book_form b) (cond (in_sheet p) (cond (eqb b.opened 0) (Err is.Closed) (Ok (number p))) (Err is.Place)) (Err is.Register)
 
-unfoldable pub aim_of : Book → Place → Aim
-aim_of b p = cond (book_form b) (cond (in_sheet p) (cond (eqb b.opened 0) (aim CLOSED 0) (aim 0 (number p))) (aim PLACE 0)) (aim REGISTER 0)
+-- what is met, if anything; else the place
+abbrev pub unless_met : Option Refusal → ℕ → Result ℕ Refusal
+unless_met None q = Ok q
+unless_met (Some r) q = Err r
 
 -- the same of a call that is refused by e at an empty place and by f at a filled one
-abbrev pub met_at : Book → ℕ → ℕ → Aim → Aim
-met_at b e f a = cond (eqb a.refusal 0) (aim (cond (is_empty (spot_at b.cells (a.place * 3))) e f) a.place) a
+abbrev pub met_at : Book → Option Refusal → Option Refusal → Result ℕ Refusal → Result ℕ Refusal
+met_at b e f (Ok q) = unless_met (cond (is_empty (spot_at b.cells (q * 3))) e f) q
+met_at b e f (Err r) = Err r
 
-unfoldable pub sought_of : Book → Place → ℕ → ℕ → Aim
+unfoldable pub sought_of : Book → Place → Option Refusal → Option Refusal → Result ℕ Refusal
 sought_of b p e f = met_at b e f (aim_of b p)
 
 -- three words v at the place p, and what stood there kept
@@ -69,9 +78,5 @@ undone_of b =
     }
 
 -- a reading, in words, at a place where it may stand; FAR where it is far
-abbrev pub put_of : Book → ℕ → ℕ → ℕ → ℕ → Step
-put_of b p x y h = cond (near (terms_of b.terms) (point_of p) (triple x y h)) (step 0 (changed_of b p (x ∷ y ∷ h ∷ []))) (step FAR b)
-
--- the same where a call goes, unless it is refused there
-unfoldable pub placed_of : Book → Aim → ℕ → ℕ → ℕ → Step
-placed_of b a x y h = cond (eqb a.refusal 0) (put_of b a.place x y h) (step a.refusal b)
+unfoldable pub placed_of : Book → ℕ → ℕ → ℕ → ℕ → Result Book Refusal
+placed_of b q x y h = cond (near (terms_of b.terms) (point_of q) (triple x y h)) (Ok (changed_of b q (x ∷ y ∷ h ∷ []))) (Err is.Far)

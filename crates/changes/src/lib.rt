@@ -1,7 +1,7 @@
 // The kept changes in a book's words, with one more or one less.
 #![tactic(auto)]
 
-ghost use Rattle.std.specs.Prelude.{◌≡◌, ◌+◌, ◌*◌, ◌<◌, length, get_or};
+ghost use Rattle.std.specs.Prelude.{◌≡◌, ◌+◌, ◌*◌, ◌<◌, get_or};
 ghost use Rattle.paper.specs.Procedure.{PLACES};
 ghost use Rattle.changes.specs.Kept.{pushed, popped, more};
 
@@ -11,32 +11,7 @@ use procedure::Procedure;
 // The words of all kept changes but one.
 const OTHERS: usize = Layout::CHANGES - Layout::CHANGE;
 
-// The words of from, in order.
-fn copy(from: &[u64], out: &mut [u64])
-    requires { length out.old ≡ length from.now }
-    ensures { out.new ≡ from.now }
-{
-    let mut i: usize = 0;
-    while i < from.len() {
-        out[i] = from[i];
-        i += 1;
-    }
-}
-
-// The kept changes with one more, the latest first; the oldest falls away.
-fn push(old: [u64; Layout::CHANGES], place: u64, x: u64, y: u64, h: u64) -> [u64; Layout::CHANGES]
-    ensures { result ≡ pushed old place x y h }
-{
-    let mut out = [0u64; Layout::CHANGES];
-    out[0] = place;
-    out[1] = x;
-    out[2] = y;
-    out[3] = h;
-    copy(&old[0..OTHERS], &mut out[Layout::CHANGE..Layout::CHANGES]);
-    out
-}
-
-// The kept changes with one more, of a place and what stands there.
+// The kept changes with one more, of a place and what stands there: the latest first; the oldest falls away.
 pub fn keep(
     old: [u64; Layout::CHANGES],
     cells: &[u64; Layout::CELLS],
@@ -46,7 +21,10 @@ pub fn keep(
     ensures { result ≡ pushed old place (get_or cells.now (place * 3) 0) (get_or cells.now (place * 3 + 1) 0) (get_or cells.now (place * 3 + 2) 0) }
 {
     let m = place * Layout::READING;
-    push(old, place as u64, cells[m], cells[m + 1], cells[m + 2])
+    let mut out = old;
+    out.copy_within(..OTHERS, Layout::CHANGE);
+    out[..Layout::CHANGE].copy_from_slice(&[place as u64, cells[m], cells[m + 1], cells[m + 2]]);
+    out
 }
 
 // The kept changes without the latest.
@@ -54,7 +32,7 @@ pub fn pop(old: [u64; Layout::CHANGES]) -> [u64; Layout::CHANGES]
     ensures { result ≡ popped old }
 {
     let mut out = [0u64; Layout::CHANGES];
-    copy(&old[Layout::CHANGE..Layout::CHANGES], &mut out[0..OTHERS]);
+    out[..OTHERS].copy_from_slice(&old[Layout::CHANGE..]);
     out
 }
 
@@ -62,9 +40,5 @@ pub fn pop(old: [u64; Layout::CHANGES]) -> [u64; Layout::CHANGES]
 pub fn one_more(n: u64) -> u64
     ensures { result ≡ more n }
 {
-    if n < Procedure::KEPT as u64 {
-        n + 1
-    } else {
-        Procedure::KEPT as u64
-    }
+    n.saturating_add(1).min(Procedure::KEPT as u64)
 }

@@ -1,11 +1,8 @@
 -- For the crates below: the calls of a register, and of two books by themselves, answer as the functions of this crate do.
 -- A comparison looks at terms and readings alone, so the number of changes that can be taken back makes no difference.
 -- Assumes nothing.
-use Prim.Native.Nat.{ℕ}
-use mathlib.Core.Path.{◌≡◌}
-use mathlib.Core.Bool.{false}
-use mathlib.Core.Option.{Option, some}
-use mathlib.Core.List.{List}
+use Rattle.std.proofs.Common.{ℕ, ◌≡◌, false, List}
+use Rattle.std.proofs.Math.Option.{Option, some}
 use Rattle.paper.specs.Books.{Sight}
 use Rattle.paper.specs.Calls.{ask, compare}
 use Rattle.paper.specs.TurnedAway.{short, suspect_of, sum_of, lowest, no_book, questioned}

@@ -1,52 +1,31 @@
-// The comparison of two open books in form, from their words.
+// The comparison of two open books, from their words.
 #![tactic(auto)]
 
 ghost use Rattle.std.specs.Prelude.{◌≡◌, ◌≤◌};
 ghost use Rattle.paper.specs.Verdicts.{sum, same_population};
 ghost use Rattle.image.specs.Lengths.{terms_of};
 ghost use Rattle.image.specs.Places.{places_of};
-ghost use Rattle.image.specs.Ready.{Ready};
-ghost use Rattle.image.specs.Sights.{Formed, sight_of};
+ghost use Rattle.image.specs.Sights.{sight_of};
 ghost use Rattle.sums.specs.Sums.{Modest};
-ghost use Rattle.comparison.specs.Comparing.{AnAxis, comparison_to, compared_of, alike_by, not_compared, by_sums, both_screened};
+ghost use Rattle.comparison.specs.Axes.{axis_number};
+ghost use Rattle.comparison.specs.Comparing.{comparison_to, comparison_told, alike_by, by_sums};
 
-use image::Layout;
+use image::{Full, Open};
 use procedure::Refusal;
-use screen::Found;
 
-// The answer to a comparison.
-#[derive(Clone, Copy)]
-pub struct Compared {
-    pub refusal: u64,
-    pub series: u64,
-    pub set: u64,
-    pub quantity: u64,
-    pub same: bool,
-}
+mod axis;
 
-// Beside a refusal a comparison says not the same.
-pub fn not_compared(refusal: u64, series: u64, set: u64, quantity: u64) -> Compared
-    ensures { result ≡ not_compared refusal series set quantity }
-{
-    Compared {
-        refusal,
-        series,
-        set,
-        quantity,
-        same: false,
-    }
-}
+pub use axis::Axis;
 
 // P for xy, Qh for h.
-fn total(terms: &[u64; Layout::TERMS], cells: &[u64; Layout::CELLS], axis: u64) -> u64
-    requires { Ready terms.now cells.now }
-    ensures { (result ≡ sum axis (terms_of terms.now) (places_of cells.now)) × Modest result }
+fn total(book: Full<'_>, axis: Axis) -> u64
+    ensures { (result ≡ sum (axis_number axis) (terms_of book.entry.terms.now) (places_of book.entry.cells.now)) × Modest result }
 {
-    let s = sums::sums(terms, cells);
-    if axis == 1 {
-        return s.p;
+    let s = sums::sums(book);
+    match axis {
+        Axis::Xy => s.p,
+        Axis::H => s.qh,
     }
-    s.qh
 }
 
 // Whether low · second <= 100 · first <= high · second.
@@ -61,74 +40,39 @@ fn alike(low: u64, high: u64, first: u64, second: u64) -> bool
 }
 
 // Whether two sums are of the same population.
-fn same_population(axis: u64, first: u64, second: u64) -> bool
+fn same_population(axis: Axis, first: u64, second: u64) -> bool
     requires { Modest first × Modest second }
-    ensures { result ≡ same_population axis first second }
+    ensures { result ≡ same_population (axis_number axis) first second }
 {
-    if axis == 1 {
-        return alike(59, 170, first, second);
+    match axis {
+        Axis::Xy => alike(59, 170, first, second),
+        Axis::H => alike(47, 213, first, second),
     }
-    alike(47, 213, first, second)
 }
 
-// The comparison of two sums: 12, or whether they are of the same population.
-fn by_sums(axis: u64, first: u64, second: u64) -> Compared
+// The comparison of two sums: ZERO, or whether they are of the same population.
+fn by_sums(axis: Axis, first: u64, second: u64) -> Result<bool, Refusal>
     requires { Modest first × Modest second }
-    ensures { result ≡ by_sums axis first second }
+    ensures { result ≡ by_sums (axis_number axis) first second }
 {
     if second == 0 {
-        return not_compared(Refusal::ZERO, 0, 0, 0);
+        return Err(Refusal::Zero);
     }
-    let same = same_population(axis, first, second);
-    Compared {
-        refusal: 0,
-        series: 0,
-        set: 0,
-        quantity: 0,
-        same,
-    }
+    Ok(same_population(axis, first, second))
 }
 
-// The comparison of two full books: 11 at the first suspect set, the first book first, or by their sums.
-fn both_screened<'a>(
-    t1: &'a [u64; Layout::TERMS],
-    c1: &'a [u64; Layout::CELLS],
-    t2: &'a [u64; Layout::TERMS],
-    c2: &'a [u64; Layout::CELLS],
-    axis: u64,
-) -> Compared
-    requires { Ready t1.now c1.now × Ready t2.now c2.now }
-    ensures { result ≡ both_screened axis (sight_of t1.now c1.now) (sight_of t2.now c2.now) }
+// The comparison of two books: SHORT, SUSPECT at the first suspect set, the first book first, ZERO, or whether they are of the same
+// population.
+pub fn compare(first: Open<'_>, second: Open<'_>, axis: Axis) -> Result<bool, Refusal>
+    ensures { comparison_told result ≡ comparison_to (axis_number axis) (sight_of first.entry.terms.now first.entry.cells.now) (sight_of second.entry.terms.now second.entry.cells.now) }
 {
-    let one = screen::first_suspect(t1, c1);
-    if let Found::At(series, set, quantity) = one {
-        return not_compared(Refusal::SUSPECT, series, set, quantity);
+    let one = places::full(first).ok_or(Refusal::Short)?;
+    let other = places::full(second).ok_or(Refusal::Short)?;
+    if let Some(suspect) = screen::first_suspect(one) {
+        return Err(Refusal::Suspect(suspect));
     }
-    let other = screen::first_suspect(t2, c2);
-    if let Found::At(series, set, quantity) = other {
-        return not_compared(Refusal::SUSPECT, series, set, quantity);
+    match screen::first_suspect(other) {
+        Some(suspect) => Err(Refusal::Suspect(suspect)),
+        None => by_sums(axis, total(one, axis), total(other, axis)),
     }
-    let first = total(t1, c1, axis);
-    let second = total(t2, c2, axis);
-    by_sums(axis, first, second)
-}
-
-// The comparison of two books: 10, 11, 12 or whether they are of the same population.
-pub fn compare<'a>(
-    t1: &'a [u64; Layout::TERMS],
-    c1: &'a [u64; Layout::CELLS],
-    t2: &'a [u64; Layout::TERMS],
-    c2: &'a [u64; Layout::CELLS],
-    axis: u64,
-) -> Compared
-    requires { AnAxis axis × Formed t1.now c1.now × Formed t2.now c2.now }
-    ensures { result ≡ compared_of (comparison_to axis (sight_of t1.now c1.now) (sight_of t2.now c2.now)) }
-{
-    if places::any_empty(c1) {
-        return not_compared(Refusal::SHORT, 0, 0, 0);
-    }
-    if places::any_empty(c2) {
-        return not_compared(Refusal::SHORT, 0, 0, 0);
-    }
-    both_screened(t1, c1, t2, c2, axis)
 }

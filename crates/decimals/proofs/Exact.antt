@@ -116,7 +116,7 @@ nonzero-only (b ∷ l) v r e = go (ltb b 49) refl (ltb 57 b) refl e
         let h = ltb-false b 49 p in
         let k = ltb-false 57 b q in
         let d : 0 * 10 + (b - 48) ≡ b - 48 = omega arith in
-        let s = run_on (b ∷ l) 0 b (omega arith) refl 0 (omega arith) k (omega arith) in
+        let s = run_on 0 b l (omega arith) k (omega arith) in
         let i = run_only l (b - 48) v r (omega arith) (omega arith) (ap (λ (n : ℕ). run n l) (sym d) ∙ (sym s ∙ e)) in
         let f : 48 + (b - 48) ≡ b = omega arith in
         (rw f at (rw (digits-one (b - 48) (omega arith)) at i.0), i.1, i.2)
@@ -192,7 +192,7 @@ fixed_back (a ∷ w) r = rw (eq-eqb a a refl) (fixed_back w r)
 run_digit : (a d : ℕ) (l : List ℕ) → d < 10 → a < TWELVE_DIGITS → run a ((48 + d) ∷ l) ≡ run (a * 10 + d) l
 run_digit a d l p q =
     let f : 48 + d - 48 ≡ d = omega arith in
-    run_on ((48 + d) ∷ l) 0 (48 + d) (omega arith) refl a (omega arith) (omega arith) q ∙ ap (λ (n : ℕ). run (a * 10 + n) l) f
+    run_on a (48 + d) l (omega arith) (omega arith) q ∙ ap (λ (n : ℕ). run (a * 10 + n) l) f
 
 run_back : (j v : ℕ) (l : List ℕ) → v < j → v < THIRTEEN_DIGITS → run 0 (digits_in j v ++ l) ≡ run v l
 run_back zero v l p q = absurd (omega arith)
@@ -229,7 +229,7 @@ module _ (v : ℕ) (p : 0 < v) where
   unfolding nonzero digits
   nonzero_back sep r s q =
       let i = first_digit in
-      let k : run 0 (digits v ++ sep ∷ r) ≡ got v (sep ∷ r) = run_back (suc v) v (sep ∷ r) (omega arith) q ∙ run_low (sep ∷ r) 0 sep (omega arith) refl v s in
+      let k : run 0 (digits v ++ sep ∷ r) ≡ got v (sep ∷ r) = run_back (suc v) v (sep ∷ r) (omega arith) q ∙ run_low v sep r s in
       rw (i.2, le-ltb i.0 49 i.3, le-ltb 57 i.0 i.4) (rw i.2 at k)
 
 number_back : (sep : ℕ) (z : ℤ) (r : List ℕ) → sep < 48 → Short z → number (numeral z ++ sep ∷ r) ≡ got z (sep ∷ r)

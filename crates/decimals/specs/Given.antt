@@ -1,35 +1,18 @@
--- What the code says of a place of a slice, against what the reader of lists gives there.
-use Rattle.std.specs.Prelude.{ℕ, ◌≤◌, ◌<◌, ◌≡◌, List, length, drop, ℤ}
-use Rattle.rows.specs.Paste.{pasted}
-use Rattle.image.specs.Lengths.{word}
-use Rattle.decimals.specs.Numbers.{THIRTEEN_DIGITS}
+-- What the code hands on of what the reader of lists gives: a value, and the text that is left.
+use Rattle.std.specs.Prelude.{ℕ, List, Option, Some, None, option_map}
+use Rattle.std.specs.Borrow.{Bor}
 use Rattle.decimals.specs.Reader.{Parsed, got, bad}
-use Rattle.decimals.specs.declared.Read.{Read}
-use Rattle.decimals.specs.declared.Read.TheVariants.{At, Bad}
 
--- from `at` on a value was read, of which `P value m` holds, and what is left starts at n
-pub record Got {A : Type 0} (P : A → ℕ → Type 0) (s : List ℕ) (at m n : ℕ) (p : Parsed A) : Type 0 where
-  pub value : A
-  pub reads : p ≡ got value (drop n s)
-  pub holds : P value m
-  pub from : at ≤ n
-  pub to : n ≤ length s
+-- what a function read, with the text behind the reference
+abbrev pub read_view : {V : Type 0} → Option (V × Bor (List ℕ)) → Option (V × List ℕ)
+read_view r = option_map (λ p. (p.0, p.1.now)) r
 
--- `At m n` says so, and `Bad` that nothing of the form stands there
-pub record Gives {A : Type 0} (P : A → ℕ → Type 0) (s : List ℕ) (at : ℕ) (r : Read) (p : Parsed A) : Type 0 where
-  pub good : (m n : ℕ) → r ≡ At m n → Got P s at m n p
-  pub fail : r ≡ Bad → p ≡ bad
+-- what the reader gives, its value in words as f writes it; none where nothing of the form stands at the front
+abbrev pub read_as : {A V : Type 0} → (A → V) → Parsed A → Option (V × List ℕ)
+read_as f bad = None
+read_as f (got a l) = Some (f a, l)
 
--- what the code hands on of a value: nothing; digits as their number; a number as its word
-abbrev pub Nothing : {A : Type 0} → A → ℕ → Type 0
-Nothing v m = Unit
-
-abbrev pub Magnitude : ℕ → ℕ → Type 0
-Magnitude v m = (m ≡ v) × (v < THIRTEEN_DIGITS)
-
-abbrev pub Word : ℤ → ℕ → Type 0
-Word z m = m ≡ word z
-
--- its words, laid into a row from base on
-abbrev pub Laid : {A : Type 0} → (A → List ℕ) → (out : List ℕ) (base : ℕ) (last : List ℕ) → A → ℕ → Type 0
-Laid f out base last v m = last ≡ pasted out base (f v)
+-- the text that is left alone
+abbrev pub rest_of : {A : Type 0} → Parsed A → Option (List ℕ)
+rest_of bad = None
+rest_of (got a l) = Some l

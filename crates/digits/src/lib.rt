@@ -1,83 +1,60 @@
-// A number of an ASCII text, read at a place of a slice.
+// A number of an ASCII text, read at the front of a slice.
 #![tactic(auto)]
 
-ghost use Rattle.std.specs.Prelude.{◌≤◌, length, drop};
-ghost use Rattle.decimals.specs.Reader.{run, nonzero, number};
-ghost use Rattle.decimals.specs.Given.{Gives, Magnitude, Word};
+ghost use Rattle.std.specs.Prelude.{◌≡◌, ◌<◌, IfSome};
+ghost use Rattle.image.specs.Lengths.{word};
+ghost use Rattle.decimals.specs.Numbers.{THIRTEEN_DIGITS};
+ghost use Rattle.decimals.specs.Reader.{got, run, nonzero, number};
+ghost use Rattle.decimals.specs.Given.{read_view, read_as};
 
-use decimals::Read;
 use image::ORIGIN;
 
-// The first and the last digit, and the least number of twelve of them.
-const ZERO: u64 = b'0' as u64;
-
-const NINE: u64 = b'9' as u64;
-
+// The least number of twelve digits.
 const TWELVE_DIGITS: u64 = 100000000000;
 
-// The digits at `at`, up to twelve.
-fn digits_at(s: &[u8], at: usize) -> Read
-    requires { at ≤ length s.now }
-    ensures { Gives Magnitude s.now at result (run 0 (drop at s.now)) }
+// The digits at the front, up to twelve, and what follows them.
+#[tactic(auto, using(decimals::proofs::Steps::reading), unfolding(decimals::specs::Reader::run, decimals::specs::Reader::stops))]
+fn digits(s: &[u8]) -> (u64, &[u8])
+    ensures value { run 0 s.now ≡ got result.0 result.1.now }
+    ensures short { result.0 < THIRTEEN_DIGITS }
 {
-    let mut m: u64 = 0;
-    let mut i = at;
-    while i < s.len() {
-        let b = rows::wide(s[i]);
-        if b < ZERO {
-            return Read::At(m, i);
-        }
-        if NINE < b {
-            return Read::At(m, i);
-        }
-        if TWELVE_DIGITS <= m {
-            return Read::At(m, i);
-        }
-        m = m * 10 + (b - ZERO);
-        i += 1;
+    let mut value = 0;
+    let mut rest = s;
+    while let [digit @ b'0'..=b'9', after @ ..] = rest
+        && value < TWELVE_DIGITS
+    {
+        value = value * 10 + u64::from(*digit - b'0');
+        rest = after;
     }
-    Read::At(m, i)
+    (value, rest)
 }
 
 // Digits of which the first is not 0.
-fn nonzero_at(s: &[u8], at: usize) -> Read
-    requires { at ≤ length s.now }
-    ensures { Gives Magnitude s.now at result (nonzero (drop at s.now)) }
+#[tactic(auto, using(decimals::proofs::Steps::reading), unfolding(decimals::specs::Reader::nonzero))]
+fn nonzero(s: &[u8]) -> Option<(u64, &[u8])>
+    ensures value { read_view result ≡ read_as (λ n. n) (nonzero s.now) }
+    ensures short { IfSome result (λ p. p.0 < THIRTEEN_DIGITS) }
 {
-    if s.len() <= at {
-        return Read::Bad;
+    match s {
+        [b'1'..=b'9', ..] => Some(digits(s)),
+        _ => None,
     }
-    let b = s[at];
-    if b < b'1' {
-        return Read::Bad;
-    }
-    if b'9' < b {
-        return Read::Bad;
-    }
-    digits_at(s, at)
 }
 
 // A number: 0, or digits that start with 1 to 9, with a '-' before them or none.
-pub fn number_at(s: &[u8], at: usize) -> Read
-    requires { at ≤ length s.now }
-    ensures { Gives Word s.now at result (number (drop at s.now)) }
+#[tactic(auto, using(decimals::proofs::Steps::reading), unfolding(decimals::specs::Reader::number, decimals::specs::Reader::then))]
+pub fn number(s: &[u8]) -> Option<(u64, &[u8])>
+    ensures { read_view result ≡ read_as word (number s.now) }
 {
-    if s.len() <= at {
-        return Read::Bad;
+    match s {
+        [b'0', rest @ ..] => Some((ORIGIN, rest)),
+        [b'-', rest @ ..] => {
+            let (value, rest) = nonzero(rest)?;
+            Some((ORIGIN - value, rest))
+        }
+        _ => {
+            let (value, rest) = nonzero(s)?;
+            Some((ORIGIN + value, rest))
+        }
     }
-    let b = s[at];
-    let next = at + 1;
-    if b == b'0' {
-        return Read::At(ORIGIN, next);
-    }
-    if b == b'-' {
-        let Read::At(m, n) = nonzero_at(s, next) else {
-            return Read::Bad;
-        };
-        return Read::At(ORIGIN - m, n);
-    }
-    let Read::At(m, n) = nonzero_at(s, at) else {
-        return Read::Bad;
-    };
-    Read::At(m + ORIGIN, n)
 }

@@ -5,10 +5,10 @@ ghost use Rattle.std.specs.Prelude.{◌≡◌};
 ghost use Rattle.paper.specs.Figures.{doubles};
 ghost use Rattle.paper.specs.Verdicts.{verdict, mark_of};
 ghost use Rattle.figures.specs.Judging.{SheetHeld, VerdictHeld, AllHeld};
-ghost use Rattle.doubles.specs.Doubles.{doubled, plain_of};
+ghost use Rattle.doubles.specs.Doubles.{doubled, plain_by, plain_of};
 
-use evaluation::Judgement;
 use paper::{Judged, Mark, Sheet, Shown, Verdict};
+use procedure::{NOTHING, Named, Refusal};
 
 // The candidate's sheet, in millimetres.
 pub fn sheet_of(f: Shown) -> Sheet
@@ -58,38 +58,23 @@ fn mark_of(v: Verdict) -> Mark
     }
 }
 
-// The answer to an evaluation, in millimetres.
+// What an evaluation gives, in millimetres.
 #[derive(Clone, Copy)]
 pub struct Evaluated {
-    pub refusal: u64,
-    pub series: u64,
-    pub set: u64,
-    pub quantity: u64,
     pub sheet: Sheet,
     pub xy: Verdict,
     pub h: Verdict,
 }
 
-// An answer in whole numbers, with its figures in millimetres.
-pub fn in_millimetres(j: Judgement) -> Evaluated
-    requires { AllHeld j.evaluation }
-    ensures { result ≡ doubled j }
+// What an evaluation gives in whole numbers, with its figures in millimetres.
+pub fn in_millimetres(e: paper::Evaluation) -> Evaluated
+    requires { AllHeld e }
+    ensures { result ≡ doubled e }
 {
-    let e = j.evaluation;
-    let shown = e.sheet;
-    let position = e.xy;
-    let height = e.h;
-    let sheet = sheet_of(shown);
-    let xy = verdict(position);
-    let h = verdict(height);
     Evaluated {
-        refusal: j.refusal,
-        series: j.series,
-        set: j.set,
-        quantity: j.quantity,
-        sheet,
-        xy,
-        h,
+        sheet: sheet_of(e.sheet),
+        xy: verdict(e.xy),
+        h: verdict(e.h),
     }
 }
 
@@ -108,22 +93,50 @@ pub struct Evaluation {
     pub h: Mark,
 }
 
-// An answer in millimetres as the record of the boundary.
-pub fn plain(e: Evaluated) -> Evaluation
-    ensures { result ≡ plain_of e }
+// Beside a refusal figures are 0 and verdicts beyond.
+const BEYOND: Judged = Judged {
+    within: false,
+    m: 0,
+    b: 0,
+};
+
+const NO_FIGURES: paper::Evaluation = paper::Evaluation {
+    sheet: Shown {
+        sx: 0,
+        sy: 0,
+        sxy: 0,
+        sh: 0,
+    },
+    xy: BEYOND,
+    h: BEYOND,
+};
+
+// The record of a refusal number, what it names, and figures.
+fn plain(refusal: u64, named: Named, e: Evaluated) -> Evaluation
+    ensures { result ≡ plain_by refusal named e }
 {
-    let sheet = e.sheet;
-    let position = e.xy;
-    let height = e.h;
-    let xy = mark_of(position);
-    let h = mark_of(height);
     Evaluation {
-        refusal: e.refusal,
-        series: e.series,
-        set: e.set,
-        quantity: e.quantity,
-        sheet,
-        xy,
-        h,
+        refusal,
+        series: named.series,
+        set: named.set,
+        quantity: named.quantity,
+        sheet: e.sheet,
+        xy: mark_of(e.xy),
+        h: mark_of(e.h),
+    }
+}
+
+impl From<Result<Evaluated, Refusal>> for Evaluation {
+    ghost from_gives = { λ answer plain. plain ≡ plain_of answer };
+
+    fn from(answer: Result<Evaluated, Refusal>) -> Evaluation {
+        match answer {
+            Ok(e) => plain(0, NOTHING, e),
+            Err(refusal) => plain(
+                refusal.number(),
+                refusal.names(),
+                in_millimetres(NO_FIGURES),
+            ),
+        }
     }
 }

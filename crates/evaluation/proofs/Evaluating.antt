@@ -1,52 +1,36 @@
 -- The ways out of an evaluation, and of the pass list's test.
 -- Assumes nothing.
-use Prim.Native.Nat.{ℕ}
-use mathlib.Core.Path.{◌≡◌, refl}
-use mathlib.Core.Bool.{true, false}
-use mathlib.Core.Option.{Option, none, some}
-use mathlib.Core.List.{List}
-use Rattle.paper.specs.Units.{Terms, Places, is_empty}
-use Rattle.paper.specs.Screening.{Suspect, first_suspect}
+use Rattle.std.proofs.Common.{Ok, Err, ℕ, ◌≡◌, true, false, List}
+use Rattle.std.proofs.Math.Option.{none, some}
+use Rattle.paper.specs.Units.{is_empty}
+use Rattle.paper.specs.Screening.{first_suspect}
 use Rattle.paper.specs.Verdicts.{judged_xy, judged_h, evaluation, both_within}
-use Rattle.paper.specs.Refusals.{SHORT, SUSPECT}
 use Rattle.paper.specs.TurnedAway.{some?, short, suspect_of, lowest, evaluating, questioned, evaluated, on_list}
 use Rattle.paper.specs.Answers.{suspect_in, given, beside, says}
 use Rattle.paper.specs.declared.Evaluation.{Evaluation}
+use Rattle.procedure.specs.Refused.{suspect_named}
+use Rattle.procedure.specs.declared.refusal.Suspect.{Suspect}
+use Rattle.procedure.specs.declared.refusal.Refusal.TheVariants as refusal
 use Rattle.image.specs.Lengths.{terms_of}
 use Rattle.image.specs.Places.{places_of}
 use Rattle.image.specs.Sights.{sight_of}
-use Rattle.screen.specs.Named.{found_of}
-use Rattle.screen.specs.declared.Found.TheVariants.{Nowhere, At}
-use Rattle.screen.proofs.Suspects.{none_is, some_is}
-use Rattle.evaluation.specs.declared.Judgement.{Judgement}
-use Rattle.evaluation.specs.Evaluating.{answer_to, judgement_of, not_judged, after_screen, screened_of}
-
--- ---- a full book
-
-pub suspect_is : (o : Option Suspect) (t : Terms) (l : Places) (i j k : ℕ) → At i j k ≡ found_of o → not_judged SUSPECT i j k ≡ after_screen o t l
-unfolding after_screen
-suspect_is o t l i j k e = rw (some_is o i j k e)
-
-pub clear_is : (o : Option Suspect) (t : Terms) (l : Places) (e : Evaluation) → Nowhere ≡ found_of o → e ≡ evaluation t l
-    → ◌≡◌ {A = Judgement} (record { refusal = 0; series = 0; set = 0; quantity = 0; evaluation = e }) (after_screen o t l)
-unfolding after_screen
-clear_is o t l e h f = rw (none_is o h, f)
+use Rattle.evaluation.specs.Evaluating.{answer_to, evaluation_told}
 
 -- ---- any book in form
 
 module _ (t l : List ℕ) where
-  pub short_is : some? is_empty (places_of l) ≡ true → not_judged SHORT 0 0 0 ≡ judgement_of (answer_to (sight_of t l))
-  unfolding not_judged judgement_of answer_to says lowest questioned evaluating short beside
+  pub short_is : some? is_empty (places_of l) ≡ true → evaluation_told (Err refusal.Short) ≡ answer_to (sight_of t l)
+  unfolding answer_to says lowest questioned evaluating short beside
   short_is e = rw e
 
-  by_suspect : some? is_empty (places_of l) ≡ false → (o : Option Suspect) → first_suspect (terms_of t) (places_of l) ≡ o
-      → after_screen o (terms_of t) (places_of l) ≡ judgement_of (answer_to (sight_of t l))
-  unfolding not_judged after_screen judgement_of answer_to says lowest questioned evaluating short suspect_of suspect_in given beside evaluated
-  by_suspect e none h = rw (e, h)
-  by_suspect e (some s) h = rw (e, h)
+  module _ (full : some? is_empty (places_of l) ≡ false) where
+    pub suspect_is : (s : Suspect) → some (suspect_named s) ≡ first_suspect (terms_of t) (places_of l) → evaluation_told (Err (refusal.Suspect s)) ≡ answer_to (sight_of t l)
+    unfolding answer_to says lowest questioned evaluating short suspect_of suspect_in beside
+    suspect_is s h = rw (full, ← h)
 
-  pub full_is : some? is_empty (places_of l) ≡ false → screened_of (sight_of t l) ≡ judgement_of (answer_to (sight_of t l))
-  full_is e = by_suspect e (first_suspect (terms_of t) (places_of l)) refl
+    pub clear_is : none ≡ first_suspect (terms_of t) (places_of l) → (e : Evaluation) → e ≡ evaluation (terms_of t) (places_of l) → evaluation_told (Ok e) ≡ answer_to (sight_of t l)
+    unfolding answer_to says lowest questioned evaluating short suspect_of given evaluated
+    clear_is h e f = rw (full, ← h, f)
 
 -- ---- the pass list
 
@@ -55,11 +39,11 @@ module _ (t l : List ℕ) where
   unfolding on_list lowest evaluating short
   short-off e = rw e
 
-  pub suspect-off : some? is_empty (places_of l) ≡ false → (i j k : ℕ) → At i j k ≡ found_of (first_suspect (terms_of t) (places_of l)) → false ≡ on_list (some (sight_of t l))
-  unfolding on_list lowest evaluating short suspect_of
-  suspect-off e i j k h = rw (e, some_is (first_suspect (terms_of t) (places_of l)) i j k h)
+  module _ (full : some? is_empty (places_of l) ≡ false) where
+    pub suspect-off : (s : Suspect) → some (suspect_named s) ≡ first_suspect (terms_of t) (places_of l) → false ≡ on_list (some (sight_of t l))
+    unfolding on_list lowest evaluating short suspect_of
+    suspect-off s h = rw (full, ← h)
 
-  pub clear_on : some? is_empty (places_of l) ≡ false → Nowhere ≡ found_of (first_suspect (terms_of t) (places_of l))
-      → both_within (judged_xy (terms_of t) (places_of l)) (judged_h (terms_of t) (places_of l)) ≡ on_list (some (sight_of t l))
-  unfolding on_list lowest evaluating short suspect_of evaluated evaluation
-  clear_on e h = rw (e, none_is (first_suspect (terms_of t) (places_of l)) h)
+    pub clear_on : none ≡ first_suspect (terms_of t) (places_of l) → both_within (judged_xy (terms_of t) (places_of l)) (judged_h (terms_of t) (places_of l)) ≡ on_list (some (sight_of t l))
+    unfolding on_list lowest evaluating short suspect_of evaluated evaluation
+    clear_on h = rw (full, ← h)

@@ -1,11 +1,6 @@
 -- Figures and verdicts are the paper's.
 -- Assumes nothing.
-use Prim.Native.Nat.{ℕ, ◌+◌, ◌-◌, ◌*◌, ◌≤◌}
-use native.Mathlib.Omega.{arith}
-use native.Mathlib.Nat.{mul-le-mul}
-use mathlib.Core.Path.{◌≡◌}
-use mathlib.Core.Bool.{Bool, ◌&&◌}
-use lib.Dec.{leb}
+use Rattle.std.proofs.Common.{ℕ, ◌+◌, ◌-◌, ◌*◌, ◌≤◌, arith, mul-le-mul, ◌≡◌, Bool, ◌&&◌, leb}
 use Rattle.paper.specs.Procedure.{SPREAD}
 use Rattle.whole.specs.Greatest.{greatest_of}
 use Rattle.paper.specs.Units.{Terms, Places}

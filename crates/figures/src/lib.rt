@@ -1,4 +1,4 @@
-// The figures of a full book in form, and the verdicts on them, in whole numbers, from its sums.
+// The figures of a full book, and the verdicts on them, in whole numbers, from its sums.
 #![tactic(auto)]
 
 ghost use Rattle.std.specs.Prelude.{◌≡◌, ◌≤◌, ◌<◌};
@@ -6,11 +6,11 @@ ghost use Rattle.paper.specs.Figures.{shown};
 ghost use Rattle.paper.specs.Verdicts.{judged_xy, judged_h, evaluation, both_within};
 ghost use Rattle.image.specs.Lengths.{ORIGIN, len, terms_of};
 ghost use Rattle.image.specs.Places.{places_of};
-ghost use Rattle.image.specs.Ready.{Ready, IsSpread};
+ghost use Rattle.image.specs.Ready.{IsSpread};
 ghost use Rattle.sums.specs.Sums.{Modest, AllModest};
 ghost use Rattle.figures.specs.Judging.{shown_by, within_by, judged_by, Held, SheetHeld, VerdictHeld, AllHeld};
 
-use image::{Layout, ORIGIN, Term};
+use image::{Full, ORIGIN, Term};
 use paper::{Evaluation, Judged, Shown};
 use procedure::Procedure;
 use sums::Totals;
@@ -18,24 +18,35 @@ use sums::Totals;
 // 42,000: s² is Q by 15 times the degrees of freedom, and 100 units² are 1 mm².
 const FIGURE: u64 = 100 * Procedure::ROUNDS as u64 * Procedure::DEGREES_H as u64;
 
-// 560,000 and 280,000: the bound's square is sigma² times chi², in hundredths, by the degrees of freedom.
-const BOUND_XY: u64 = 10000 * Procedure::DEGREES_XY as u64;
+// How a sum is held to its stated sigma, and what is shown of the bound.
+#[derive(Clone, Copy)]
+struct Test {
+    // Within when times · sum <= most · sigma².
+    times: u64,
+    most: u64,
+    // The bound's square is sigma² times chi², in hundredths, by the degrees of freedom.
+    divisor: u64,
+    chi: u64,
+    ghost small: { (times ≤ 40) × (most ≤ 22341) × (0 < divisor) × (chi ≤ 7447) },
+}
 
-const BOUND_H: u64 = 10000 * Procedure::DEGREES_H as u64;
+impl Test {
+    // 40·P <= 22,341·sigma_xy². 560,000; chi² for 56 degrees.
+    const XY: Test = Test {
+        times: 40,
+        most: 22341,
+        divisor: 10000 * Procedure::DEGREES_XY as u64,
+        chi: 7447,
+    };
 
-// 40·P <= 22,341·sigma_xy² and 10·Qh <= 6,201·sigma_h².
-const TIMES_XY: u64 = 40;
-
-const MOST_XY: u64 = 22341;
-
-const TIMES_H: u64 = 10;
-
-const MOST_H: u64 = 6201;
-
-// chi² for 56 and 28 degrees, in hundredths.
-const CHI_XY: u64 = 7447;
-
-const CHI_H: u64 = 4134;
+    // 10·Qh <= 6,201·sigma_h². 280,000; chi² for 28 degrees.
+    const H: Test = Test {
+        times: 10,
+        most: 6201,
+        divisor: 10000 * Procedure::DEGREES_H as u64,
+        chi: 4134,
+    };
+}
 
 // 1,024²: a figure is shown in 1,024ths of a millimetre.
 const SHOWN: u64 = 1024 * 1024;
@@ -65,62 +76,44 @@ fn shown_of(s: Totals) -> Shown
     }
 }
 
-// Whether times · sum <= most · sigma². Sigma is a word.
-fn within_by(times: u64, most: u64, sum: u64, sigma: u64) -> bool
-    requires { (times ≤ 40) × (most ≤ 22341) × Modest sum × IsSpread sigma }
-    ensures { result ≡ within_by times most sum (len sigma) }
+// Whether a sum is within its test. Sigma is a word.
+fn within_by(test: Test, sum: u64, sigma: u64) -> bool
+    requires { Modest sum × IsSpread sigma }
+    ensures { result ≡ within_by test.times test.most sum (len sigma) }
 {
     let s = sigma - ORIGIN;
-    let tested = times * sum;
-    let limit = most * (s * s);
+    let tested = test.times * sum;
+    let limit = test.most * (s * s);
     tested <= limit
 }
 
 // The verdict on a sum of which m is shown: within by that test; b is the greatest with b² · divisor <= sigma² · chi · 1,048,576.
-fn judged_by(times: u64, most: u64, divisor: u64, chi: u64, sum: u64, m: u64, sigma: u64) -> Judged
-    requires { (times ≤ 40) × (most ≤ 22341) × (0 < divisor) × (chi ≤ 7447) × Modest sum × (m ≡ shown sum) × Held m × IsSpread sigma }
-    ensures { (result ≡ judged_by times most divisor chi sum (len sigma)) × VerdictHeld result }
+fn judged_by(test: Test, sum: u64, m: u64, sigma: u64) -> Judged
+    requires { Modest sum × (m ≡ shown sum) × Held m × IsSpread sigma }
+    ensures { (result ≡ judged_by test.times test.most test.divisor test.chi sum (len sigma)) × VerdictHeld result }
 {
-    let within = within_by(times, most, sum, sigma);
+    let within = within_by(test, sum, sigma);
     let s = sigma - ORIGIN;
-    let b = roots::greatest(divisor, s * s * chi * SHOWN);
+    let b = roots::greatest(test.divisor, s * s * test.chi * SHOWN);
     Judged { within, m, b }
 }
 
 // The evaluation of a full book.
-pub fn evaluate(terms: &[u64; Layout::TERMS], cells: &[u64; Layout::CELLS]) -> Evaluation
-    requires { Ready terms.now cells.now }
-    ensures { (result ≡ evaluation (terms_of terms.now) (places_of cells.now)) × AllHeld result }
+pub fn evaluate(book: Full<'_>) -> Evaluation
+    ensures { (result ≡ evaluation (terms_of book.entry.terms.now) (places_of book.entry.cells.now)) × AllHeld result }
 {
-    let s = sums::sums(terms, cells);
+    let s = sums::sums(book);
     let sheet = shown_of(s);
-    let xy = judged_by(
-        TIMES_XY,
-        MOST_XY,
-        BOUND_XY,
-        CHI_XY,
-        s.p,
-        sheet.sxy,
-        terms[Term::SIGMA_XY],
-    );
-    let h = judged_by(
-        TIMES_H,
-        MOST_H,
-        BOUND_H,
-        CHI_H,
-        s.qh,
-        sheet.sh,
-        terms[Term::SIGMA_H],
-    );
+    let xy = judged_by(Test::XY, s.p, sheet.sxy, book.terms[Term::SIGMA_XY]);
+    let h = judged_by(Test::H, s.qh, sheet.sh, book.terms[Term::SIGMA_H]);
     Evaluation { sheet, xy, h }
 }
 
 // Whether both are within, by the sums alone: no figure and no bound is worked out.
-pub fn both_within(terms: &[u64; Layout::TERMS], cells: &[u64; Layout::CELLS]) -> bool
-    requires { Ready terms.now cells.now }
-    ensures { result ≡ both_within (judged_xy (terms_of terms.now) (places_of cells.now)) (judged_h (terms_of terms.now) (places_of cells.now)) }
+pub fn both_within(book: Full<'_>) -> bool
+    ensures { result ≡ both_within (judged_xy (terms_of book.entry.terms.now) (places_of book.entry.cells.now)) (judged_h (terms_of book.entry.terms.now) (places_of book.entry.cells.now)) }
 {
-    let s = sums::sums(terms, cells);
-    within_by(TIMES_XY, MOST_XY, s.p, terms[Term::SIGMA_XY])
-        & within_by(TIMES_H, MOST_H, s.qh, terms[Term::SIGMA_H])
+    let s = sums::sums(book);
+    within_by(Test::XY, s.p, book.terms[Term::SIGMA_XY])
+        & within_by(Test::H, s.qh, book.terms[Term::SIGMA_H])
 }

@@ -1,13 +1,13 @@
 -- The ways out of reading a file.
 -- Assumes nothing.
 use Prim.Native.Nat.{ℕ}
-use native.Mathlib.Omega.{arith}
 use mathlib.Core.Path.{◌≡◌, refl, sym, ap, ◌∙◌}
 use mathlib.Core.Bool.{Bool, true, false}
 use mathlib.Core.Option.{Option, none, some}
 use mathlib.Core.List.{List}
 use lib.ListN.{length}
 use borrow.Author.Tests.{eq-eqb}
+use Rattle.std.proofs.Common.{Some, None, rules}
 use Rattle.paper.specs.Procedure.{PLACES, KEPT}
 use Rattle.paper.specs.Units.{Terms, Places, in_range, all_near}
 use Rattle.paper.specs.Refusals.{TERMS, FAR, FORM}
@@ -73,28 +73,30 @@ pub record Read (bs : List ℕ) (c : Contents) : Type 0 where
   pub terms : c.terms ≡ term_words t
   pub cells : c.cells ≡ cells_of l
 
-pub unread : (bs : List ℕ) (c : Contents) → c ≡ contents_of (read_of bs) → c.formed ≡ false → read_of bs ≡ none
+pub unread : (bs : List ℕ) → None ≡ contents_of (read_of bs) → read_of bs ≡ none
 unfolding contents_of
-unread bs c e f = go (read_of bs) e
+unread bs e = go (read_of bs) e
   where
-    go : (o : Option (Terms × Places)) → c ≡ contents_of o → o ≡ none
+    go : (o : Option (Terms × Places)) → None ≡ contents_of o → o ≡ none
     go none u = refl
-    go (some d) u = let z : true ≡ false = sym (ap (λ (x : Contents). x.formed) u) ∙ f in let y : ◌≡◌ {A = ℕ} 0 1 = cc in absurd (omega arith)
+    go (some d) u = search rules
 
-pub was_read : (bs : List ℕ) (c : Contents) → c ≡ contents_of (read_of bs) → c.formed ≡ true → Read bs c
+pub was_read : (bs : List ℕ) (c : Contents) → Some c ≡ contents_of (read_of bs) → Read bs c
 unfolding contents_of
-was_read bs c e f = go (read_of bs) refl e
+was_read bs c e = go (read_of bs) refl e
   where
-    go : (o : Option (Terms × Places)) → read_of bs ≡ o → c ≡ contents_of o → Read bs c
-    go none u v = let z : false ≡ true = sym (ap (λ (x : Contents). x.formed) v) ∙ f in let y : ◌≡◌ {A = ℕ} 0 1 = cc in absurd (omega arith)
-    go (some d) u v = record {
-      t = d.0;
-      l = d.1;
-      reads = u;
-      printable = (read_only bs d.0 d.1 u).printable;
-      terms = ap (λ (x : Contents). x.terms) v;
-      cells = ap (λ (x : Contents). x.cells) v;
-    }
+    go : (o : Option (Terms × Places)) → read_of bs ≡ o → Some c ≡ contents_of o → Read bs c
+    go none u v = search rules
+    go (some d) u v =
+        let w : c ≡ record { terms = term_words d.0; cells = cells_of d.1 } = cc in
+        record {
+          t = d.0;
+          l = d.1;
+          reads = u;
+          printable = (read_only bs d.0 d.1 u).printable;
+          terms = ap (λ (x : Contents). x.terms) w;
+          cells = ap (λ (x : Contents). x.cells) w;
+        }
 
 module _ (bs : List ℕ) where
   pub way-form : read_of bs ≡ none → record { refusal = FORM; book = book_of none } ≡ book_read (read_of bs)

@@ -3,42 +3,31 @@
 
 ghost use Rattle.std.specs.Prelude.{◌≡◌};
 ghost use Rattle.std.proofs.Math.Option.{none};
-ghost use Rattle.book.specs.Meaning.{book_of};
 ghost use Rattle.fieldfile.specs.Reader.{read_of};
+ghost use Rattle.book.specs.Meaning.{book_of};
+ghost use Rattle.book.specs.Steps.{stepped};
 ghost use Rattle.filebook.specs.FileBook.{book_read};
 
-use book::Step;
+use book::{Book, Step};
 use procedure::Refusal;
 
-// Beside a refusal the file's book is closed and empty.
-fn refused(refusal: u64) -> Step
-    ensures { result ≡ record { refusal = refusal; book = book_of none } }
+// The book of a file, or what refuses it: FORM, TERMS, FAR in that order.
+pub fn yielded(file: &[u8]) -> Result<Book, Refusal>
+    ensures { stepped (book_of none) result ≡ book_read (read_of file.now) }
 {
-    Step {
-        refusal,
-        book: making::closed(),
+    let contents = contents::read(file).ok_or(Refusal::Form)?;
+    if !ranges::in_range(&contents.terms) {
+        return Err(Refusal::Terms);
     }
+    if !places::all_near(&contents.terms, &contents.cells) {
+        return Err(Refusal::Far);
+    }
+    Ok(making::filled(contents.terms, contents.cells))
 }
 
-// The book of a file: FORM, TERMS, FAR in that order.
+// The same as a step; beside a refusal the file's book is closed and empty.
 pub fn read_book(file: &[u8]) -> Step
     ensures { result ≡ book_read (read_of file.now) }
 {
-    let contents = contents::read(file);
-    let formed = contents.formed;
-    let terms = contents.terms;
-    let cells = contents.cells;
-    if formed {
-        if ranges::in_range(&terms) {
-            if places::all_near(&terms, &cells) {
-                return Step {
-                    refusal: 0,
-                    book: making::filled(terms, cells),
-                };
-            }
-            return refused(Refusal::FAR);
-        }
-        return refused(Refusal::TERMS);
-    }
-    refused(Refusal::FORM)
+    making::closed().step(yielded(file))
 }

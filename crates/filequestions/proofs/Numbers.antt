@@ -1,8 +1,8 @@
--- The numbers that a report prints are small, and its text is that of the whole-number record.
+-- The numbers that a report prints are small.
 -- Assumes nothing.
 use Prim.Native.Nat.{ℕ, zero, suc}
 use native.Mathlib.Omega.{arith}
-use mathlib.Core.Path.{◌≡◌, refl, subst}
+use mathlib.Core.Path.{◌≡◌, refl, subst, ap}
 use mathlib.Core.Bool.{Bool, true, false, cond, not, ◌&&◌}
 use mathlib.Core.Option.{Option, none, some, map}
 use mathlib.Core.List.{List, [], ◌∷◌}
@@ -18,13 +18,13 @@ use Rattle.paper.specs.Answers.{evaluates, Answer, nowhere, named, suspect_in, g
 use Rattle.paper.specs.Alone as alone
 use Rattle.paper.specs.declared.Evaluation.{Evaluation}
 use Rattle.paper.proofs.Tests.{and_left, and_right}
-use Rattle.evaluation.specs.Evaluating.{judgement_of}
-use Rattle.evaluation.specs.declared.Judgement.{Judgement}
+use Rattle.evaluation.specs.Evaluating.{evaluation_told}
+use Rattle.procedure.specs.declared.refusal.Refusal.{Refusal}
+use Rattle.procedure.specs.Refused.{named_by}
+use Rattle.std.specs.Prelude.{Result, Ok, Err, IfOk}
 use Rattle.figures.specs.Judging.{AllHeld}
 use Rattle.axes.specs.Given as given
-use Rattle.axes.specs.Text.{axis_line}
-use Rattle.verdicts.specs.Text.{verdict_text}
-use Rattle.report.specs.Text.{refusal_numbers, refusal_text, report_text, value_text, report_of}
+use Rattle.report.specs.Given.{FitsAnswer}
 
 -- at most the greatest number of a refusal; those of a suspect are no greater
 abbrev small : ℕ → Bool
@@ -117,9 +117,6 @@ file_prints c = go (alone.refused_file c) (file_small c)
 -- ---- its text
 
 module _ (a : Answer) (p : Prints a) where
-  refusal-fits : given.Fits a.refused
-  refusal-fits = omega (arith, leb-true a.refused FORM p.refused)
-
   three : (small a.suspect.series ≡ true) × (small a.suspect.set ≡ true) × (small a.suspect.quantity ≡ true)
   three =
       let x = small a.suspect.series in
@@ -135,22 +132,14 @@ module _ (a : Answer) (p : Prints a) where
     omega (arith, leb-true a.suspect.quantity FORM three.2),
   )
 
--- ---- in the code's record
+-- ---- an answer of the code
 
-pub printed_is : (j : Judgement) (a : Answer) → Prints a → j ≡ judgement_of a
-    → report_text j.refusal (record { series = j.series; set = j.set; quantity = j.quantity }) j.evaluation.xy j.evaluation.h ≡ report_of a
-unfolding judgement_of report_of value_text report_text verdict_text axis_line refusal_text refusal_numbers
-printed_is j a p e = rw (e, p.value)
-
-pub printed-fits : (j : Judgement) (a : Answer) → Prints a → j ≡ judgement_of a → AllHeld j.evaluation
-    → given.Fits j.refusal × given.Fits j.series × given.Fits j.set × given.Fits j.quantity × given.FitsAxis j.evaluation.xy × given.FitsAxis j.evaluation.h
-unfolding judgement_of
-printed-fits j a p e h =
-    let s = suspect-fits a p in (
-      rw e (refusal-fits a p),
-      rw e s.0,
-      rw e s.1,
-      rw e s.2,
-      (omega (arith, h.xy.m), omega (arith, h.xy.b)),
-      (omega (arith, h.h.m), omega (arith, h.h.b)),
+pub answer-fits : (r : Result Evaluation Refusal) (a : Answer) → Prints a → evaluation_told r ≡ a → IfOk r AllHeld → FitsAnswer r
+answer-fits (Ok e) a p t h = ((omega (arith, h.xy.m), omega (arith, h.xy.b)), (omega (arith, h.h.m), omega (arith, h.h.b)))
+answer-fits (Err r) a p t h =
+    let s = suspect-fits a p in
+    let named : named_by r ≡ a.suspect = ap (λ (x : Answer). x.suspect) t in (
+      rw named s.0,
+      rw named s.1,
+      rw named s.2,
     )

@@ -1,46 +1,39 @@
 // The evaluation of the book that a field file yields, and its report. Any bytes may be handed in; no register is touched.
 #![tactic(auto)]
 
-ghost use Rattle.std.specs.Prelude.{◌≡◌};
+ghost use Rattle.std.specs.Prelude.{◌≡◌, IfOk};
 ghost use Rattle.paper.specs.Alone.{evaluated_file};
 ghost use Rattle.figures.specs.Judging.{AllHeld};
-ghost use Rattle.evaluation.specs.Evaluating.{judgement_of};
-ghost use Rattle.doubles.specs.Doubles.{doubled};
+ghost use Rattle.evaluation.specs.Evaluating.{evaluation_told};
+ghost use Rattle.doubles.specs.Doubles.{Evaluates};
 ghost use Rattle.fieldfile.specs.Reader.{read_of};
 ghost use Rattle.report.specs.Text.{report_of};
 ghost use Rattle.report.specs.Given.{held};
 
 use doubles::Evaluated;
-use evaluation::Judgement;
-use report::Printed;
+use paper::Evaluation;
+use procedure::Refusal;
+use report::Report;
 
 // The evaluation of a file's book, in whole numbers: after the file's own refusals SHORT, SUSPECT.
-fn judge_file(file: &[u8]) -> Judgement
-    ensures { (result ≡ judgement_of (evaluated_file (read_of file.now))) × AllHeld result.evaluation }
+fn judge_file(file: &[u8]) -> Result<Evaluation, Refusal>
+    ensures answer { evaluation_told result ≡ evaluated_file (read_of file.now) }
+    ensures held { IfOk result AllHeld }
 {
-    let s = filebook::read_book(file);
-    let refusal = s.refusal;
-    let b = s.book;
-    if refusal != 0 {
-        return evaluation::not_judged(refusal, 0, 0, 0);
-    }
-    questions::judge(b)
+    let book = filebook::yielded(file)?;
+    questions::judge(&book)
 }
 
 // The same in millimetres.
-pub fn evaluate_file(file: &[u8]) -> Evaluated
-    ensures { result ≡ doubled (judgement_of (evaluated_file (read_of file.now))) }
+pub fn evaluate_file(file: &[u8]) -> Result<Evaluated, Refusal>
+    ensures { Evaluates result (evaluated_file (read_of file.now)) }
 {
-    doubles::in_millimetres(judge_file(file))
+    Ok(doubles::in_millimetres(judge_file(file)?))
 }
 
 // What the program prints of a file.
-pub fn report_file(file: &[u8]) -> Printed
+pub fn report_file(file: &[u8]) -> Report
     ensures { result ≡ held (report_of (evaluated_file (read_of file.now))) }
 {
-    let j = judge_file(file);
-    let e = j.evaluation;
-    let xy = e.xy;
-    let h = e.h;
-    report::report(j.refusal, j.series, j.set, j.quantity, xy, h)
+    report::report(judge_file(file))
 }

@@ -1,4 +1,4 @@
-// The exported call on a field file. Any bytes may be handed in; no register is touched.
+// The call on a field file. Any bytes may be handed in; no register is touched.
 #![tactic(auto)]
 
 ghost use Rattle.std.specs.Prelude.{◌≡◌};
@@ -9,9 +9,8 @@ ghost use Rattle.doubles.specs.Doubles.{evaluation_of};
 use doubles::Evaluation;
 
 // Evaluate the book of a field file.
-#[unsafe(no_mangle)]
-pub extern "C" fn rtk_evaluate_file(file: &[u8]) -> Evaluation
+pub fn rtk_evaluate_file(file: &[u8]) -> Evaluation
     ensures { result ≡ evaluation_of (evaluated_file (read_of file.now)) }
 {
-    doubles::plain(filequestions::evaluate_file(file))
+    Evaluation::from(filequestions::evaluate_file(file))
 }

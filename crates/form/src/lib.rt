@@ -1,7 +1,7 @@
 // The form of a book's words as a whole. Each test is the paper's test of what the words mean.
 #![tactic(auto)]
 
-ghost use Rattle.std.specs.Prelude.{◌≡◌, ◌≤◌, length, drop};
+ghost use Rattle.std.specs.Prelude.{◌≡◌};
 ghost use Rattle.image.specs.Changes.{zeros};
 ghost use Rattle.form.specs.Whole.{bare, sound, words_form};
 
@@ -9,17 +9,10 @@ use image::Layout;
 use procedure::Procedure;
 
 // Words that are not used. All are looked at, without a branch: so the compiler takes many at once.
-fn zero_from(l: &[u64], from: usize) -> bool
-    requires { from ≤ length l.now }
-    ensures { result ≡ zeros (drop from l.now) }
+fn all_zero(words: &[u64]) -> bool
+    ensures { result ≡ zeros words.now }
 {
-    let mut zero = true;
-    let mut i = from;
-    while i < l.len() {
-        zero = zero & (l[i] == 0);
-        i += 1;
-    }
-    zero
+    words.iter().fold(true, |zero, word| zero & (*word == 0))
 }
 
 // The words of a closed book.
@@ -31,7 +24,7 @@ fn bare(
 ) -> bool
     ensures { result ≡ bare terms.now cells.now kept changes.now }
 {
-    (kept == 0) & (zero_from(terms, 0) & (zero_from(cells, 0) & zero_from(changes, 0)))
+    (kept == 0) & (all_zero(terms) & (all_zero(cells) & all_zero(changes)))
 }
 
 // The words of an open book in form.
@@ -46,7 +39,7 @@ fn sound(
     if kept > Procedure::KEPT as u64 {
         return false;
     }
-    zero_from(changes, (kept as usize) * Layout::CHANGE)
+    all_zero(&changes[kept as usize * Layout::CHANGE..])
         & (ranges::in_range(terms) & standing::all_stand(terms, cells, kept, changes))
 }
 

@@ -3,6 +3,10 @@
 
 use procedure::Procedure;
 
+mod sheets;
+
+pub use sheets::{Full, Open};
+
 // The lengths and the places of their parts.
 #[derive(Clone, Copy)]
 pub struct Layout;

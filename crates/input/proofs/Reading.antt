@@ -3,8 +3,7 @@
 use Rattle.std.proofs.Common.{◌≡◌, ℕ, ◌+◌, ◌-◌, ◌^◌, ◌<◌, ◌≤◌, min, max, List, [], ◌++◌, length, take, drop, Option, Some, None, refl, sym, ap, subst, ◌∙◌, arith, append-nil, length-append, length-drop, length-take-le, take-add}
 use Rattle.std.proofs.KnownBytes.{Consumes-nil, Consumes-trans}
 use Rattle.std.specs.Io.KnownBytes.{Consumes, IsAtEnd}
-use Rattle.input.specs.declared.Got.TheVariants.{Bytes}
-use Rattle.input.specs.Input.{Brings, Holds}
+use Rattle.input.specs.Input.{Holds}
 
 -- the bytes that came; len of them are held
 pub record Came (before after : Option (List ℕ)) (row : List ℕ) (len turn : ℕ) : Type 0 where
@@ -25,7 +24,7 @@ module _ (old new : List ℕ) (len from : ℕ) (same : length new ≡ length old
       subst (λ (k : ℕ). take k new ≡ bs) e (kept ∙ (subst (λ (k : ℕ). take k old ≡ bs) (sym e) (front h)))
 
   -- a read that brought something
-  pub came_more : (a b c : Option (List ℕ)) (n turn : ℕ) → from + n ≤ length old → 0 < n → Brings (Bytes n) b c (drop from new)
+  pub came_more : (a b c : Option (List ℕ)) (n turn : ℕ) → from + n ≤ length old → 0 < n → Consumes b c (take n (drop from new)) × (n ≡ 0 → 0 < length (drop from new) → IsAtEnd c)
       → Came a b old len turn → Came a c new (max len (from + n)) (turn + 1)
   came_more a b c n turn fits some brings came =
       let bs = came.bytes in
@@ -46,7 +45,7 @@ module _ (old new : List ℕ) (len from : ℕ) (same : length new ≡ length old
       }
 
   end_of : (a b c : Option (List ℕ)) (turn : ℕ) → from < max 1 (length old) → Consumes b c [] → (0 < length (drop from new) → IsAtEnd c)
-      → Came a b old len turn → Holds (Bytes len) a c new
+      → Came a b old len turn → Holds len a c new
   end_of None b c turn place last end came = tt
   end_of (Some xs) None c turn place last end came = absurd came.taken
   end_of (Some xs) (Some ys) None turn place last end came = absurd last
@@ -67,13 +66,13 @@ module _ (old new : List ℕ) (len from : ℕ) (same : length new ≡ length old
       )
 
   -- a read that brought nothing
-  pub holds_at_end : (a b c : Option (List ℕ)) (n turn : ℕ) → from < max 1 (length old) → n ≡ 0 → Brings (Bytes n) b c (drop from new)
-      → Came a b old len turn → Holds (Bytes len) a c new
+  pub holds_at_end : (a b c : Option (List ℕ)) (n turn : ℕ) → from < max 1 (length old) → n ≡ 0 → Consumes b c (take n (drop from new)) × (n ≡ 0 → 0 < length (drop from new) → IsAtEnd c)
+      → Came a b old len turn → Holds len a c new
   holds_at_end a b c n turn place z brings came =
       end_of a b c turn place (subst (λ (k : ℕ). Consumes b c (take k (drop from new))) z brings.0) (brings.1 z) came
 
 -- after as many turns as no buffer has bytes
-pub holds_at_last : (a b : Option (List ℕ)) (row : List ℕ) (len turn : ℕ) → length row < 2 ^ 64 → 2 ^ 64 - 1 ≤ turn → Came a b row len turn → Holds (Bytes len) a b row
+pub holds_at_last : (a b : Option (List ℕ)) (row : List ℕ) (len turn : ℕ) → length row < 2 ^ 64 → 2 ^ 64 - 1 ≤ turn → Came a b row len turn → Holds len a b row
 holds_at_last None b row len turn fits last came = tt
 holds_at_last (Some xs) None row len turn fits last came = absurd came.taken
 holds_at_last (Some xs) (Some ys) row len turn fits last came =

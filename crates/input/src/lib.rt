@@ -1,42 +1,33 @@
 // An input, read to its end into a lent buffer.
 #![tactic(auto)]
 
-ghost use Rattle.std.specs.Prelude.{◌<◌, ◌≤◌, max, ◌≡◌, length, take, drop};
-ghost use Rattle.input.specs.Input.{Ends, Brings, Holds};
+ghost use Rattle.std.specs.Prelude.{◌+◌, ◌<◌, ◌≤◌, max, ◌≡◌, length, take, drop, IfOk};
+ghost use Rattle.std.specs.Io.KnownBytes.{ReadConsumes};
+ghost use Rattle.input.specs.Input.{Holds};
 
+use std::io;
 use std::io::{ErrorKind, Read};
 
-// How many bytes a read brought, or that it failed.
-#[derive(Clone, Copy)]
-pub enum Got {
-    Bytes(usize),
-    Failed,
-}
-
-// One read. One that a signal interrupts is tried again: it brought nothing, and is not the end.
-fn read_through<R: Read>(reader: &mut R, row: &mut [u8]) -> Got
-    ensures within { Ends result 0 (length row.old) }
-    ensures brings { Brings result (R.remaining reader.old) (R.remaining reader.new) row.new }
+// One read. One that a signal interrupts is tried again: it brought nothing, and is not the end. What the last turn gives is handed on, whatever it is.
+fn read_through<R: Read>(reader: &mut R, row: &mut [u8]) -> io::Result<usize>
+    ensures within { IfOk result (λ n. n ≤ length row.old) }
+    ensures brings { ReadConsumes (R.remaining reader.old) (R.remaining reader.new) result row.new }
 {
-    for _ in 0..u64::MAX {
+    for _ in 1..u64::MAX {
         match reader.read(row) {
-            Ok(n) => return Got::Bytes(n),
-            Err(e) => {
-                if e.kind() != ErrorKind::Interrupted {
-                    return Got::Failed;
-                }
-            }
+            Err(e) if e.kind() == ErrorKind::Interrupted => {}
+            got => return got,
         }
     }
-    Got::Failed
+    reader.read(row)
 }
 
 // One read into the buffer, from that byte on.
-fn read_once<R: Read>(reader: &mut R, buffer: &mut [u8], from: usize) -> Got
+fn read_once<R: Read>(reader: &mut R, buffer: &mut [u8], from: usize) -> io::Result<usize>
     requires { from ≤ length buffer.old }
-    ensures within { Ends result from (length buffer.old) }
+    ensures within { IfOk result (λ n. from + n ≤ length buffer.old) }
     ensures front { take from buffer.new ≡ take from buffer.old }
-    ensures brings { Brings result (R.remaining reader.old) (R.remaining reader.new) (drop from buffer.new) }
+    ensures brings { ReadConsumes (R.remaining reader.old) (R.remaining reader.new) result (drop from buffer.new) }
 {
     read_through(reader, &mut buffer[from..])
 }
@@ -50,29 +41,20 @@ fn next_place(len: usize, room: usize) -> usize
     if len < room { len } else { 0 }
 }
 
-// How many bytes are held, where len were and the latest end there: a buffer that was full stays full.
-fn held(len: usize, end: usize) -> usize
-    ensures { result ≡ max len end }
-{
-    if len < end { end } else { len }
-}
-
 // Reads to the end of the input, however long: of one longer than the buffer, as many bytes are held as the buffer has.
 // A proved loop has to end: it has as many turns as no run uses up.
-pub fn fill<R: Read>(reader: &mut R, buffer: &mut [u8]) -> Got
-    ensures within { Ends result 0 (length buffer.old) }
-    ensures holds { Holds result (R.remaining reader.old) (R.remaining reader.new) buffer.new }
+pub fn fill<R: Read>(reader: &mut R, buffer: &mut [u8]) -> io::Result<usize>
+    ensures within { IfOk result (λ n. n ≤ length buffer.old) }
+    ensures holds { IfOk result (λ n. Holds n (R.remaining reader.old) (R.remaining reader.new) buffer.new) }
 {
     let mut len: usize = 0;
     for _turn in 0..u64::MAX {
         let from = next_place(len, buffer.len());
-        let Got::Bytes(n) = read_once(reader, buffer, from) else {
-            return Got::Failed;
-        };
+        let n = read_once(reader, buffer, from)?;
         if n == 0 {
-            return Got::Bytes(len);
+            return Ok(len);
         }
-        len = held(len, from + n);
+        len = len.max(from + n);
     }
-    Got::Bytes(len)
+    Ok(len)
 }

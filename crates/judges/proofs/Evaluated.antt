@@ -1,21 +1,43 @@
 -- An evaluation of the book of a number.
 -- Assumes nothing.
-use Prim.Native.Nat.{ℕ}
-use mathlib.Core.Path.{◌≡◌, ap}
-use mathlib.Core.List.{List}
+use Rattle.std.proofs.Common.{◌≡◌, refl, ap, ◌∙◌, ℕ, List, Bool, true, false, cond}
+use Rattle.std.specs.Prelude.{Result, Ok, Err}
+use Rattle.paper.specs.Procedure.{BOOKS}
+use Rattle.paper.specs.Units.{one_to}
 use Rattle.paper.specs.Calls.{ask, evaluate}
+use Rattle.paper.specs.Answers as answer
 use Rattle.paper.specs.Alone.{asked_alone}
+use Rattle.paper.specs.declared.Evaluation.{Evaluation}
+use Rattle.procedure.specs.declared.refusal.Refusal.{Refusal}
+use Rattle.procedure.specs.declared.refusal.Refusal.TheVariants as is
 use Rattle.book.specs.declared.Book.{Book}
 use Rattle.book.specs.Meaning.{seen}
-use Rattle.evaluation.specs.Evaluating.{judgement_of}
 use Rattle.doubles.specs.declared.Evaluated.{Evaluated}
-use Rattle.doubles.specs.Doubles.{doubled, evaluation_of, plain_of}
+use Rattle.doubles.specs.Doubles.{doubled, doubled_result, Evaluates}
 use Rattle.lent.specs.Calls.{called}
-use Rattle.shelving.specs.Steps.{turned_away}
+use Rattle.shelving.specs.Steps.{meets_register, addressed_of}
 use Rattle.shelf.specs.Steps.{found_of}
-use Rattle.shelf.proofs.Asked.{turned, asked, evaluates}
+use Rattle.shelf.proofs.Asked.{asked-told, evaluates}
 
-pub evaluation-asked : (bs : List ℕ) (k : ℕ) (b : Book) → b ≡ found_of bs k → (v : Evaluated) (r : ℕ) → v ≡ doubled (judgement_of (asked_alone evaluate (seen b))) → r ≡ turned_away k v.refusal
-    → plain_of (record { refusal = r; series = v.series; set = v.set; quantity = v.quantity; sheet = v.sheet; xy = v.xy; h = v.h }) ≡ evaluation_of (called (ask (evaluate k)) bs).answer
-unfolding evaluation_of plain_of doubled judgement_of turned
-evaluation-asked bs k b f v r e w = rw (w, e) (ap evaluation_of (asked bs k evaluate evaluates b f))
+-- it makes no difference whether an answer is turned before its figures are doubles or after
+turned-doubled : (k : ℕ) (r : Result Evaluation Refusal) → addressed_of k (doubled_result r) ≡ doubled_result (addressed_of k r)
+unfolding addressed_of
+turned-doubled k (Ok e) = go (one_to BOOKS k)
+  where
+    go : (i : Bool) → ◌≡◌ {A = Result Evaluated Refusal} (cond i (Ok (doubled e)) (Err is.Place)) (doubled_result (cond i (Ok e) (Err is.Place)))
+    go true = refl
+    go false = refl
+turned-doubled k (Err r) = go (meets_register {A = Evaluation} (Err r)) (one_to BOOKS k)
+  where
+    go : (m i : Bool) → ◌≡◌ {A = Result Evaluated Refusal} (cond m (Err r) (cond i (Err r) (Err is.Place))) (doubled_result (cond m (Err r) (cond i (Err r) (Err is.Place))))
+    go true i = refl
+    go false true = refl
+    go false false = refl
+
+pub evaluation-asked : (bs : List ℕ) (k : ℕ) (b : Book) → b ≡ found_of bs k → (r : Result Evaluated Refusal) → Evaluates r (asked_alone evaluate (seen b)) → Evaluates (addressed_of k r) (called (ask (evaluate k)) bs).answer
+unfolding answer.beside
+evaluation-asked bs k b f r e = record {
+  whole = addressed_of k e.whole;
+  answer = asked-told bs k evaluate evaluates b f answer.evaluates e.whole e.answer;
+  figures = ap (addressed_of k) e.figures ∙ turned-doubled k e.whole;
+}

@@ -1,7 +1,7 @@
 -- The answer to a comparison as the record of the boundary.
 use Rattle.std.specs.Prelude.{ℕ, Bool, true, false}
 use Rattle.paper.specs.Answers.{Answer}
-use Rattle.comparison.specs.declared.Compared.{Compared}
+use Rattle.procedure.specs.declared.refusal.Named.{Named}
 use Rattle.comparison.specs.Comparing.{same_in}
 use Rattle.judges.specs.declared.Comparison.{Comparison}
 
@@ -20,6 +20,6 @@ comparison_of a =
       same = bit (same_in a.value);
     }
 
--- of the record that the call below the boundary gives
-unfoldable pub plainly_of : Compared → Comparison
-plainly_of c = record { refusal = c.refusal; series = c.series; set = c.set; quantity = c.quantity; same = bit c.same }
+-- of a refusal number, what it names, and whether they are the same
+abbrev pub comparison_by : ℕ → Named → Bool → Comparison
+comparison_by n s b = record { refusal = n; series = s.series; set = s.set; quantity = s.quantity; same = bit b }

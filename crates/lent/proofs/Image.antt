@@ -16,12 +16,13 @@ use Rattle.paper.specs.Books as paper
 use Rattle.paper.specs.Form.{formed_o, InForm}
 use Rattle.integers.specs.Diff.{≤-or-<}
 use Rattle.paper.proofs.Tests.{and_left, and_right}
+use Rattle.std.specs.List.{list_all, range_with_len}
 use Rattle.rows.specs.Lists.{all?}
 use Rattle.rows.specs.Blocks.{blocks, laid}
 use Rattle.words.specs.Words.{bytes_of}
 use Rattle.rows.specs.Paste.{pasted}
 use Rattle.rows.proofs.Elements.{tests_append, test_at}
-use Rattle.rows.proofs.Blocks.{length-blocks, blocks-add, block_at, blocks_turn, blocks_over, tests_blocks, length-laid, laid_from, laid-set, laid-zeros, blocks-laid, laid-blocks}
+use Rattle.rows.proofs.Blocks.{length-blocks, blocks-add, block_at, blocks_turn, tests_by, tests_blocks, length-laid, laid_from, laid-set, laid-zeros, blocks-laid, laid-blocks}
 use Rattle.rows.proofs.Sizes.{Bytes, bytes_drop}
 use Rattle.book.specs.declared.Book.{Book}
 use Rattle.book.specs.Meaning.{book_of, meant, book_form}
@@ -30,7 +31,7 @@ use Rattle.stored.specs.Image.{BOOK, words_of, book_bytes, book_at}
 use Rattle.stored.proofs.Image.{sized-at, book-drop, bytes-book, length-book, book_front, closed-bytes}
 use Rattle.lent.specs.Image.{LENGTH, image, book_in, form_from, meant_from, in_form, form_between, state_of}
 
--- ---- the loop of the form
+-- ---- the books of a range in form
 
 module _ (bs : List ℕ) where
   abbrev pub form_left : ℕ → ℕ → Bool
@@ -40,15 +41,9 @@ module _ (bs : List ℕ) where
   unfolding all?
   form_turn to k h = rw (blocks_turn BOOK book_in to k bs h, book-drop bs (k * BOOK))
 
-  pub form-on : (to k : ℕ) → k < to → book_form (book_at bs (k * BOOK)) ≡ true → form_left to k ≡ form_left to (k + 1)
-  form-on to k h e = form_turn to k h ∙ rw e
-
-  pub form_stop : (to k : ℕ) → k < to → book_form (book_at bs (k * BOOK)) ≡ false → form_left to k ≡ false
-  form_stop to k h e = form_turn to k h ∙ rw e
-
-  pub form_end : (to k : ℕ) → k ≡ to → form_left to k ≡ true
-  unfolding all?
-  form_end to k e = rw (blocks_over BOOK book_in to k (drop (k * BOOK) bs) (omega arith))
+  -- each book is looked at by its number
+  pub forms_by : (from to : ℕ) → list_all (λ k. book_form (book_at bs (k * BOOK))) (range_with_len from (to - from)) ≡ form_left to from
+  forms_by from to = simp (book-drop bs) at (tests_by BOOK book_in book_form (to - from) from bs)
 
   -- the books before one, that one, and those behind it
   pub form-parts : (k : ℕ) → 1 ≤ k → k ≤ BOOKS
@@ -62,9 +57,9 @@ module _ (bs : List ℕ) where
       ∙ tests_append book_form (blocks BOOK book_in (k - 1) bs) (blocks BOOK book_in (BOOKS - (k - 1)) (drop ((k - 1) * BOOK) bs))
       ∙ ap (λ (b : Bool). form_from (k - 1) bs && b) t
 
-  pub between_long : (from to : ℕ) → (length bs ≡ LENGTH → ⊥) → form_between from to bs ≡ false
+  pub between_off : (from to : ℕ) → (length bs ≡ LENGTH → ⊥) → eqb (length bs) LENGTH ≡ form_between from to bs
   unfolding form_between
-  between_long from to f = rw (ne_eqb (length bs) LENGTH f)
+  between_off from to f = rw (ne_eqb (length bs) LENGTH f)
 
   pub between_is : (from to : ℕ) → length bs ≡ LENGTH → form_between from to bs ≡ form_left to from
   unfolding form_between

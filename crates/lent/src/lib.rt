@@ -14,18 +14,8 @@ pub fn formed_from(register: &[u8], from: usize, to: usize) -> bool
     requires { (from ≤ to) × (to ≤ BOOKS) }
     ensures { result ≡ form_between from to register.now }
 {
-    if register.len() != Layout::REGISTER {
-        return false;
-    }
-    let mut k = from;
-    while k < to {
-        if stored::in_form(register, k * Layout::BOOK) {
-            k += 1;
-        } else {
-            return false;
-        }
-    }
-    true
+    register.len() == Layout::REGISTER
+        && (from..to).all(|k| stored::in_form(register, k * Layout::BOOK))
 }
 
 // Whether bytes are a register in form: the whole check.

@@ -1,14 +1,8 @@
 -- Differences and their limit: the paper's test, the greatest difference that passes, and the nearest roots that are further away.
 -- Assumes nothing.
-use Prim.Native.Nat.{ℕ, ◌+◌, ◌-◌, ◌*◌, ◌≤◌, ◌<◌}
-use native.Mathlib.Omega.{arith}
-use native.Mathlib.Nat.{mul-le-mul, lt_of_not-le}
-use mathlib.Core.Path.{◌≡◌, refl, sym, ap, ◌∙◌}
-use mathlib.Core.Bool.{Bool, true, false, not}
-use mathlib.Core.Logic.{◌⊎◌, inl, inr}
-use lib.Dec.{leb, ltb}
-use lib.IntN.{ℤ, pos, nat_abs, ◌-ℤ◌, sub_ℕ}
-use borrow.Author.Tests.{leb-true, leb-false, le-ltb, lt-ltb, le-leb, lt-leb}
+use Rattle.std.proofs.Common.{ℕ, ◌+◌, ◌-◌, ◌*◌, ◌≤◌, ◌<◌, arith, mul-le-mul, lt_of_not-le, ◌≡◌, refl, sym, ap, ◌∙◌, Bool, true, false, not, ◌⊎◌, inl, inr, leb, ltb, ℤ, pos, nat_abs, ◌-ℤ◌, leb-true, leb-false, le-ltb, lt-ltb, le-leb}
+use Rattle.std.proofs.Math.IntN.{sub_ℕ}
+use borrow.Author.Tests.{lt-leb}
 use Rattle.integers.specs.Diff.{sub-ge, sub-lt, ≤-or-<, minus-sub}
 use Rattle.whole.specs.Greatest.{Greatest, greatest_of}
 use Rattle.whole.proofs.Greatest.{greatest_of-greatest}

@@ -14,10 +14,7 @@ use image::ORIGIN;
 pub fn apart(a: u64, b: u64) -> u64
     ensures { (result ≡ nat_abs (len a -ℤ len b)) × (result ≡ a - b + (b - a)) }
 {
-    if a < b {
-        return b - a;
-    }
-    a - b
+    a.abs_diff(b)
 }
 
 // 25·s², which twice the square of a difference may reach. The screening length s is a word.

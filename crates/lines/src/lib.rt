@@ -1,71 +1,48 @@
-// Fixed strings and lines of numbers of an ASCII text, read at a place of a slice.
+// Fixed strings and lines of numbers of an ASCII text, read at the front of a slice.
 #![tactic(auto)]
 
-ghost use Rattle.std.specs.Prelude.{◌≡◌, map, ◌+◌, ◌≤◌, length, drop};
+ghost use Rattle.std.specs.Prelude.{◌≡◌, map, option_copied};
 ghost use Rattle.image.specs.Lengths.{word};
 ghost use Rattle.decimals.specs.Numbers.{sep_of};
 ghost use Rattle.decimals.specs.Reader.{fixed, field, numbers};
-ghost use Rattle.decimals.specs.Given.{Gives, Nothing, Word, Laid};
+ghost use Rattle.decimals.specs.Given.{read_view, read_as, rest_of};
 
-use decimals::Read;
-
-// The bytes w.
-pub fn fixed_at(s: &[u8], at: usize, w: &[u8]) -> Read
-    requires { at ≤ length s.now }
-    ensures { Gives Nothing s.now at result (fixed w.now (drop at s.now)) }
+// What follows the bytes w.
+#[tactic(auto, using(crate::proofs::Steps::fixed_prefix))]
+pub fn fixed<'a>(s: &'a [u8], w: &[u8]) -> Option<&'a [u8]>
+    ensures { option_copied result ≡ rest_of (fixed w.now s.now) }
 {
-    let mut i = at;
-    let mut j = 0;
-    while j < w.len() {
-        if s.len() <= i {
-            return Read::Bad;
-        }
-        if s[i] != w[j] {
-            return Read::Bad;
-        }
-        i += 1;
-        j += 1;
-    }
-    Read::At(0, i)
+    s.strip_prefix(w)
 }
 
-// A number and the byte that ends it.
-pub fn field_at(s: &[u8], at: usize, sep: u8) -> Read
-    requires { at ≤ length s.now }
-    ensures { Gives Word s.now at result (field sep (drop at s.now)) }
+// A number, as its word, and the byte that ends it.
+#[tactic(auto, using(decimals::proofs::Steps::reading), unfolding(decimals::specs::Reader::field, decimals::specs::Reader::then))]
+pub fn field(s: &[u8], sep: u8) -> Option<(u64, &[u8])>
+    ensures { read_view result ≡ read_as word (field sep s.now) }
 {
-    let Read::At(z, n) = digits::number_at(s, at) else {
-        return Read::Bad;
-    };
-    let end = [sep];
-    let Read::At(_, m) = fixed_at(s, n, &end) else {
-        return Read::Bad;
-    };
-    Read::At(z, m)
+    let (word, rest) = digits::number(s)?;
+    let rest = fixed(rest, &[sep])?;
+    Some((word, rest))
 }
 
 // LF after the last number of a line, a space where n more are to come.
+#[tactic(auto, unfolding(decimals::specs::Numbers::sep_of))]
 pub fn sep_of(n: usize) -> u8
     ensures { result ≡ sep_of n }
 {
     if n == 0 { b'\n' } else { b' ' }
 }
 
-// A line of n numbers, whose words go to `out` from base on.
-pub fn numbers_at(s: &[u8], at: usize, n: usize, out: &mut [u64], base: usize) -> Read
-    requires { (at ≤ length s.now) × (base + n ≤ length out.old) }
-    ensures { Gives (Laid (map word) out.old base out.new) s.now at result (numbers n (drop at s.now)) }
+// A line of N numbers, as their words.
+pub fn numbers<const N: usize>(s: &[u8]) -> Option<([u64; N], &[u8])>
+    ensures { read_view result ≡ read_as (map word) (numbers N s.now) }
 {
-    let mut i = at;
-    let mut k = 0;
-    while k < n {
-        let sep = sep_of(n - k - 1);
-        let Read::At(z, next) = field_at(s, i, sep) else {
-            return Read::Bad;
-        };
-        out[base + k] = z;
-        i = next;
-        k += 1;
+    let mut words = [0; N];
+    let mut rest = s;
+    for (k, word) in words.iter_mut().enumerate() {
+        let (number, after) = field(rest, sep_of(N - k - 1))?;
+        *word = number;
+        rest = after;
     }
-    Read::At(0, i)
+    Some((words, rest))
 }

@@ -3,12 +3,11 @@
 use Prim.Native.Nat.{ℕ, suc, ◌+◌, ◌-◌, ◌*◌, ◌<◌}
 use native.Mathlib.Omega.{arith}
 use native.Mathlib.Numerals.{add-one}
-use mathlib.Core.Path.{◌≡◌, refl, sym, ◌∙◌}
+use mathlib.Core.Path.{◌≡◌, refl, sym}
 use mathlib.Core.Bool.{true, false, cond}
 use mathlib.Core.Option.{none, some, map}
 use mathlib.Core.List.{List, [], ◌∷◌, ◌++◌, append-nil}
-use lib.ListN.{length, take, drop, get_or, set}
-use lib.Seq.{take-suc-set, take-length}
+use lib.ListN.{get_or}
 use Rattle.paper.specs.Procedure.{BOOKS}
 use Rattle.paper.specs.Books.{sight, sights}
 use Rattle.paper.specs.Screening.{each}
@@ -34,20 +33,13 @@ module _ (bs : List ℕ) (k : ℕ) (h : k < BOOKS) where
       let a : get_or (meant_from BOOKS bs) k none ≡ meant (book_at bs (k * BOOK)) = rw e at (book-at bs (suc k) (omega arith) (omega arith)) in
       rw a
 
-  pub list_more : (numbers : List ℕ) (n : ℕ) → n < length numbers → take n numbers ≡ listed_by bs k → on_list (map sight (meant (book_at bs (k * BOOK)))) ≡ true
-      → take (n + 1) (set numbers n (k + 1)) ≡ listed_by bs (k + 1)
+  pub list_more : (l : List ℕ) → l ≡ listed_by bs k → on_list (map sight (meant (book_at bs (k * BOOK)))) ≡ true → l ++ (k + 1) ∷ [] ≡ listed_by bs (k + 1)
   unfolding each
-  list_more numbers n l e o =
-      rw (add-one n, take-suc-set numbers n (k + 1) l, e, add-one k, sight_is, o)
+  list_more l e o = rw (e, add-one k, sight_is, o)
 
   pub list_same : (l : List ℕ) → l ≡ listed_by bs k → on_list (map sight (meant (book_at bs (k * BOOK)))) ≡ false → l ≡ listed_by bs (k + 1)
   unfolding each
   list_same l e o = rw (add-one k, sight_is, o, append-nil) e
-
--- ---- at the end of each loop
-
-pub written_all : (xs out l : List ℕ) (i : ℕ) → i ≡ length xs → l ≡ take i xs ++ drop i out → l ≡ xs ++ drop (length xs) out
-written_all xs out l i h e = e ∙ rw (h, take-length xs)
 
 -- ---- one book
 

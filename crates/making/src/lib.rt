@@ -10,6 +10,7 @@ use book::Book;
 use image::Layout;
 
 // A book with nothing in it.
+#[tactic(auto, unfolding(book::specs::Meaning::book_of))]
 pub fn closed() -> Book
     ensures { result ≡ book_of none }
 {
@@ -26,6 +27,7 @@ pub fn closed() -> Book
 }
 
 // An open book with these terms and readings, and nothing to take back.
+#[tactic(auto, unfolding(crate::specs::Filled::filled_of))]
 pub fn filled(terms: [u64; Layout::TERMS], cells: [u64; Layout::CELLS]) -> Book
     ensures { result ≡ filled_of terms cells }
 {

@@ -3,7 +3,7 @@
 
 ghost use Rattle.std.specs.Prelude.{◌≡◌, ◌*◌, ◌≤◌, ◌<◌};
 ghost use Rattle.paper.specs.Procedure.{SERIES, SETS, POINTS};
-ghost use Rattle.paper.specs.Units.{terms_given, in_order};
+ghost use Rattle.paper.specs.Units.{terms_from, in_order};
 ghost use Rattle.image.specs.Lengths.{ORIGIN, len, word_or, term_words_or};
 ghost use Rattle.image.specs.Places.{place_of};
 
@@ -22,46 +22,18 @@ const GREATEST: i64 = SHIFT - 1;
 pub fn word_of(x: i64) -> u64
     ensures { result ≡ word_or x }
 {
-    if x < LEAST {
-        return 0;
+    if (LEAST..=GREATEST).contains(&x) {
+        (x + SHIFT) as u64
+    } else {
+        0
     }
-    if GREATEST < x {
-        return 0;
-    }
-    (x + SHIFT) as u64
 }
 
 // The words of twelve terms.
-pub fn terms_of(
-    distance: i64,
-    height: i64,
-    sxy: i64,
-    sh: i64,
-    gxy: i64,
-    gh: i64,
-    x1: i64,
-    y1: i64,
-    h1: i64,
-    x2: i64,
-    y2: i64,
-    h2: i64,
-) -> [u64; Layout::TERMS]
-    ensures { result ≡ term_words_or (terms_given distance height sxy sh gxy gh x1 y1 h1 x2 y2 h2) }
+pub fn terms_of(terms: [i64; Layout::TERMS]) -> [u64; Layout::TERMS]
+    ensures { result ≡ term_words_or (terms_from terms) }
 {
-    [
-        word_of(distance),
-        word_of(height),
-        word_of(sxy),
-        word_of(sh),
-        word_of(gxy),
-        word_of(gh),
-        word_of(x1),
-        word_of(y1),
-        word_of(h1),
-        word_of(x2),
-        word_of(y2),
-        word_of(h2),
-    ]
+    terms.map(word_of)
 }
 
 // The length of a word.

@@ -1,13 +1,9 @@
 -- The ways out of opening a book and of striking one.
 -- Assumes nothing.
-use Prim.Native.Nat.{ℕ}
-use mathlib.Core.Path.{◌≡◌, refl, sym, ap, ◌∙◌}
-use mathlib.Core.Bool.{Bool, true, false}
-use mathlib.Core.Option.{none, some}
-use mathlib.Core.List.{List, []}
-use lib.ListN.{length, replicate}
-use lib.Dec.{eqb}
-use borrow.Author.Tests.{eqb-true, eqb-false}
+use Rattle.std.proofs.Common.{◌≡◌, refl, sym, ap, ◌∙◌, ℕ, Bool, true, false, List, [], length, replicate, eqb, eqb-true}
+use Rattle.std.specs.Prelude.{Err}
+use Rattle.std.proofs.Math.Option.{none, some}
+use Rattle.std.proofs.lemmas.Bool.{eqb-false}
 use Rattle.paper.specs.Procedure.{PLACES, KEPT}
 use Rattle.paper.specs.Units.{Terms, in_range}
 use Rattle.paper.specs.Books as paper
@@ -20,8 +16,9 @@ use Rattle.image.proofs.Lengths.{words-terms, terms-words-or}
 use Rattle.image.proofs.Places.{none_cells}
 use Rattle.image.proofs.Changes.{none_kept}
 use Rattle.image.proofs.Bounds.{terms-short, range_given}
+use Rattle.procedure.specs.declared.refusal.Refusal.{Refusal}
+use Rattle.procedure.specs.Refused.{number_of}
 use Rattle.book.specs.declared.Book.{Book}
-use Rattle.book.specs.declared.Step.{Step}
 use Rattle.book.specs.Meaning.{book_of, book_form}
 use Rattle.book.specs.Steps.{step, step_of, met_of}
 use Rattle.book.proofs.Meaning.{Sized, meant-closed, meant-open}
@@ -29,7 +26,7 @@ use Rattle.book.proofs.Steps.{step-unformed, step-refused, step-done}
 use Rattle.book.proofs.Opened.{Opened, met_refused}
 use Rattle.making.specs.Filled.{filled_of}
 
-pub strike_refused : (b : Book) → Sized b → (n : ℕ) → n ≡ met_of b → (n ≡ 0 → ⊥) → step n b ≡ step_of strike b
+pub strike_refused : (b : Book) → Sized b → (r : Refusal) → Err r ≡ met_of b → step (number_of r) b ≡ step_of strike b
 unfolding rules
 strike_refused b s = met_refused b strike [] s refl
 
@@ -52,8 +49,8 @@ module _ (b : Book) (s : Sized b) (e : book_form b ≡ true) where
     begun_with b' z r w = step-done b (begin t) b' e (rw (meant-closed b z, r)) w
 
 -- terms of any size are opened as their words are
-pub begin_given : (b : Book) (t told : Terms) → Sized b → (w : List ℕ) → w ≡ term_words_or told → told ≡ t → (r : Step) → r ≡ step_of (begin (terms_of w)) b → r ≡ step_of (begin t) b
-begin_given b t told s w ew same r er = er ∙ ap (λ (l : List ℕ). step_of (begin (terms_of l)) b) (ew ∙ ap term_words_or same) ∙ go (book_form b) (in_range t) (eqb b.opened 0) refl refl refl
+pub begin_given : (b : Book) (t : Terms) → Sized b → (w : List ℕ) → w ≡ term_words_or t → step_of (begin (terms_of w)) b ≡ step_of (begin t) b
+begin_given b t s w e = rw e (go (book_form b) (in_range t) (eqb b.opened 0) refl refl refl)
   where
     u : Terms
     u = terms_of (term_words_or t)

@@ -3,77 +3,48 @@
 
 ghost use Rattle.std.specs.Prelude.{◌≡◌};
 ghost use Rattle.paper.specs.Calls.{begin, strike};
-ghost use Rattle.paper.specs.Units.{terms_given};
+ghost use Rattle.paper.specs.Units.{terms_from};
 ghost use Rattle.image.specs.Lengths.{terms_of};
-ghost use Rattle.book.specs.Steps.{step_of};
+ghost use Rattle.book.specs.Steps.{step_of, stepped};
 
 use book::{Book, Step};
 use image::Layout;
 use procedure::Refusal;
 
-// Open a closed book with terms, in words.
-fn begin_words(b: Book, terms: [u64; Layout::TERMS]) -> Step
-    ensures { result ≡ step_of (begin (terms_of terms)) b }
+// A closed book opened with terms, in words, or what refuses that.
+fn begun(b: &Book, terms: [u64; Layout::TERMS]) -> Result<Book, Refusal>
+    ensures { stepped b.now result ≡ step_of (begin (terms_of terms)) b.now }
 {
-    if book::in_form(b) {
-        if b.opened != 0 {
-            return Step {
-                refusal: Refusal::OPEN,
-                book: b,
-            };
-        }
-        if ranges::in_range(&terms) {
-            return Step {
-                refusal: 0,
-                book: making::filled(terms, [0u64; Layout::CELLS]),
-            };
-        }
-        return Step {
-            refusal: Refusal::TERMS,
-            book: b,
-        };
+    if !book::in_form(b) {
+        return Err(Refusal::Register);
     }
-    Step {
-        refusal: Refusal::REGISTER,
-        book: b,
+    if b.opened != 0 {
+        return Err(Refusal::Open);
     }
+    if !ranges::in_range(&terms) {
+        return Err(Refusal::Terms);
+    }
+    Ok(making::filled(terms, [0u64; Layout::CELLS]))
 }
 
-// Open a closed book with terms.
-pub fn begin(
-    b: Book,
-    distance: i64,
-    height: i64,
-    sxy: i64,
-    sh: i64,
-    gxy: i64,
-    gh: i64,
-    x1: i64,
-    y1: i64,
-    h1: i64,
-    x2: i64,
-    y2: i64,
-    h2: i64,
-) -> Step
-    ensures { result ≡ step_of (begin (terms_given distance height sxy sh gxy gh x1 y1 h1 x2 y2 h2)) b }
+// Open a closed book with terms, in the order of the field file.
+pub fn begin(b: Book, terms: [i64; Layout::TERMS]) -> Step
+    ensures { result ≡ step_of (begin (terms_from terms)) b }
 {
-    let terms = numbers::terms_of(distance, height, sxy, sh, gxy, gh, x1, y1, h1, x2, y2, h2);
-    begin_words(b, terms)
+    b.step(begun(&b, numbers::terms_of(terms)))
+}
+
+// A book struck, or what refuses that.
+fn struck(b: Book) -> Result<Book, Refusal>
+    ensures { stepped b result ≡ step_of strike b }
+{
+    b.met()?;
+    Ok(making::closed())
 }
 
 // Strike a book: it is closed, and nothing in it is left.
 pub fn strike(b: Book) -> Step
     ensures { result ≡ step_of strike b }
 {
-    let met = b.met();
-    if met != 0 {
-        return Step {
-            refusal: met,
-            book: b,
-        };
-    }
-    Step {
-        refusal: 0,
-        book: making::closed(),
-    }
+    b.step(struck(b))
 }

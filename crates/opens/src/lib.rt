@@ -1,4 +1,4 @@
-// The exported calls that open a book of a lent register and strike one. Any bytes and any numbers may be handed in.
+// The calls that open a book of a lent register and strike one. Any bytes and any numbers may be handed in.
 #![tactic(auto)]
 
 ghost use Rattle.paper.specs.Calls.{on, begin, strike};
@@ -6,8 +6,7 @@ ghost use Rattle.paper.specs.Units.{terms_given};
 ghost use Rattle.lent.specs.Calls.{Calls};
 
 // Open a closed book with terms.
-#[unsafe(no_mangle)]
-pub extern "C" fn rtk_open(
+pub fn rtk_open(
     register: &mut [u8],
     book: u64,
     d: i64,
@@ -26,13 +25,13 @@ pub extern "C" fn rtk_open(
     ensures { Calls (on book (begin (terms_given d h sxy sh gxy gh x1 y1 h1 x2 y2 h2))) register.old result register.new }
 {
     let b = shelf::found(register, book);
-    let opened = opening::begin(b, d, h, sxy, sh, gxy, gh, x1, y1, h1, x2, y2, h2);
+    let terms = [d, h, sxy, sh, gxy, gh, x1, y1, h1, x2, y2, h2];
+    let opened = opening::begin(b, terms);
     shelving::put_back(register, book, opened)
 }
 
 // Strike a book.
-#[unsafe(no_mangle)]
-pub extern "C" fn rtk_strike(register: &mut [u8], book: u64) -> u64
+pub fn rtk_strike(register: &mut [u8], book: u64) -> u64
     ensures { Calls (on book strike) register.old result register.new }
 {
     let b = shelf::found(register, book);

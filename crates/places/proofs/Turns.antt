@@ -1,11 +1,13 @@
 -- What each turn of the loops over the places says.
 -- Assumes nothing.
-use Prim.Native.Nat.{ℕ, suc, ◌+◌, ◌-◌, ◌*◌, ◌<◌}
+use Prim.Native.Nat.{ℕ, zero, suc, ◌+◌, ◌-◌, ◌*◌, ◌<◌}
 use native.Mathlib.Omega.{arith}
 use mathlib.Core.Path.{◌≡◌, refl, sym, ap, ◌∙◌}
 use mathlib.Core.Bool.{Bool, true, false, ◌&&◌, and-true}
 use mathlib.Core.List.{List, [], ◌∷◌}
 use lib.ListN.{drop}
+use lib.Seq.{drop-drop}
+use Rattle.std.specs.List.{list_any, range_with_len}
 use Rattle.rows.specs.Blocks.{blocks}
 use Rattle.rows.proofs.Blocks.{blocks_turn, blocks_over}
 use Rattle.paper.specs.Procedure.{ROUNDS, PLACES}
@@ -61,17 +63,17 @@ module _ (cells : List ℕ) where
     unfolding all_near
     near_end n set e f = let g : set * 2 ≡ PLACES = omega arith in sym (and-true n) ∙ rw (over (set * 2) g) at f
 
-  abbrev pub empty_from : ℕ → Bool
-  empty_from p = some? is_empty (from p)
+  -- a place is looked at by its number
+  abbrev pub empty : ℕ → Bool
+  empty p = is_empty (spot_at cells (p * 3))
 
-  pub empty-start : some? is_empty (places_of cells) ≡ empty_from 0
-  empty-start = ap (some? is_empty) start
+  empties : (n p : ℕ) → list_any empty (range_with_len p n) ≡ some? is_empty (blocks 3 spot_in n (drop (p * 3) cells))
+  unfolding blocks
+  empties zero p = refl
+  empties (suc n) p =
+      let e : p * 3 + 3 ≡ (p + 1) * 3 = omega arith in
+      rw (empties n (p + 1), spot_on cells (p * 3), drop-drop 3 (p * 3) cells, e)
 
-  pub empty-on : (p : ℕ) → p < PLACES → is_empty (spot_at cells (p * 3)) ≡ false → empty_from p ≡ empty_from (p + 1)
-  empty-on p h e = rw (turn p h, e)
-
-  pub empty_stop : (p : ℕ) → p < PLACES → is_empty (spot_at cells (p * 3)) ≡ true → empty_from p ≡ true
-  empty_stop p h e = rw (turn p h, e)
-
-  pub empty_end : (p : ℕ) → p ≡ PLACES → empty_from p ≡ false
-  empty_end p e = rw (over p e)
+  pub empties_all : list_any empty (range_with_len 0 PLACES) ≡ some? is_empty (places_of cells)
+  unfolding places_of
+  empties_all = empties PLACES 0

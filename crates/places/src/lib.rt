@@ -13,6 +13,10 @@ ghost use Rattle.places.specs.Marks.{Marks};
 use image::Layout;
 use procedure::Procedure;
 
+mod filled;
+
+pub use filled::full;
+
 // Three words that hold no reading.
 pub fn all_zero(x: u64, y: u64, h: u64) -> bool
     ensures { result ≡ all_zero x y h }
@@ -24,10 +28,7 @@ pub fn all_zero(x: u64, y: u64, h: u64) -> bool
 pub fn mark(empty: bool) -> u64
     ensures { eqb result 0 ≡ empty }
 {
-    if empty {
-        return 0;
-    }
-    1
+    u64::from(!empty)
 }
 
 // The place is empty.
@@ -63,13 +64,11 @@ pub fn survey(t: &[u64; Layout::TERMS], cells: &[u64; Layout::CELLS], marks: &mu
     ensures { (result ≡ all_near (terms_of t.now) 0 (places_of cells.now)) × Marks marks.new (places_of cells.now) }
 {
     let mut near = true;
-    let mut set: usize = 0;
-    while set < Procedure::ROUNDS {
+    for set in 0..Procedure::ROUNDS {
         let p = set * Procedure::POINTS;
         marks[p] = mark_at(cells, p);
         marks[p + 1] = mark_at(cells, p + 1);
         near = near & near_at(t, cells, p) & near_at(t, cells, p + 1);
-        set += 1;
     }
     near
 }
@@ -86,12 +85,5 @@ pub fn all_near(t: &[u64; Layout::TERMS], cells: &[u64; Layout::CELLS]) -> bool
 pub fn any_empty(cells: &[u64; Layout::CELLS]) -> bool
     ensures { result ≡ some? is_empty (places_of cells.now) }
 {
-    let mut p: usize = 0;
-    while p < Procedure::PLACES {
-        if empty_at(cells, p) {
-            return true;
-        }
-        p += 1;
-    }
-    false
+    (0..Procedure::PLACES).any(|p| empty_at(cells, p))
 }

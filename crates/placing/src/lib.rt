@@ -14,9 +14,7 @@ pub fn put(old: [u64; Layout::CELLS], place: usize, x: u64, y: u64, h: u64) -> [
 {
     let mut out = old;
     let m = place * Layout::READING;
-    out[m] = x;
-    out[m + 1] = y;
-    out[m + 2] = h;
+    out[m..m + Layout::READING].copy_from_slice(&[x, y, h]);
     out
 }
 

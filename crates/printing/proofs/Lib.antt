@@ -1,2 +1,2 @@
-pub mod Rows
-pub mod Lines
+pub mod Numbers
+pub mod Pieces

@@ -1,83 +1,47 @@
-// Fixed strings and lines of numbers, written into a slice as ASCII.
+// Fixed strings and lines of numbers, appended to a text as ASCII.
 #![tactic(auto)]
 
-ghost use Rattle.std.specs.Prelude.{cond, [], ◌∷◌, ◌++◌, map, ◌+◌, ◌≤◌, length};
-ghost use Rattle.image.specs.Lengths.{len};
-ghost use Rattle.decimals.specs.Numbers.{digits, numeral, line};
-ghost use Rattle.printing.specs.Given.{Put};
+ghost use Rattle.std.specs.Prelude.{◌≡◌, cond, [], ◌∷◌, ◌++◌, ◌+◌, ◌≤◌, length};
+ghost use Rattle.arrayvec.specs.ArrayVec.{array_vec_len};
+ghost use Rattle.decimals.specs.Numbers.{numeral, line};
 
-use image::ORIGIN;
+use arrayvec::ArrayVec;
+use itoa::Buffer;
 
-// The digit 0.
-const ZERO: u64 = b'0' as u64;
-
-// The digits of m.
-fn put_digits(out: &mut [u8], at: usize, m: u64) -> usize
-    requires { at + length (digits m) ≤ length out.old }
-    ensures { Put out.old at (digits m) out.new result }
+// The bytes w. There is room for them.
+pub fn put_fixed<const N: usize>(out: &mut ArrayVec<u8, N>, w: &[u8])
+    requires { array_vec_len out.old + length w.now ≤ N }
+    ensures { out.new.items ≡ out.old.items ++ w.now }
 {
-    if m < 10 {
-        out[at] = (ZERO + m) as u8;
-        at + 1
-    } else {
-        let n = put_digits(out, at, m / 10);
-        out[n] = (ZERO + m % 10) as u8;
-        n + 1
-    }
-}
-
-// The number of the word z, and the byte that ends it.
-fn put_field(out: &mut [u8], at: usize, z: u64, sep: u8) -> usize
-    requires { at + length (numeral (len z) ++ sep ∷ []) ≤ length out.old }
-    ensures { Put out.old at (numeral (len z) ++ sep ∷ []) out.new result }
-{
-    if z < ORIGIN {
-        out[at] = b'-';
-        let n = put_digits(out, at + 1, ORIGIN - z);
-        out[n] = sep;
-        n + 1
-    } else {
-        let n = put_digits(out, at, z - ORIGIN);
-        out[n] = sep;
-        n + 1
-    }
-}
-
-// A line of the numbers of the words zs.
-pub fn put_numbers(out: &mut [u8], at: usize, zs: &[u64]) -> usize
-    requires { at + length (line (map len zs.now)) ≤ length out.old }
-    ensures { Put out.old at (line (map len zs.now)) out.new result }
-{
-    let mut i = at;
-    let mut k = 0;
-    while k < zs.len() {
-        let sep = lines::sep_of(zs.len() - k - 1);
-        i = put_field(out, i, zs[k], sep);
-        k += 1;
-    }
-    i
-}
-
-// The bytes w.
-pub fn put_fixed(out: &mut [u8], at: usize, w: &[u8]) -> usize
-    requires { at + length w.now ≤ length out.old }
-    ensures { Put out.old at w.now out.new result }
-{
-    let mut j = 0;
-    while j < w.len() {
-        out[at + j] = w[j];
-        j += 1;
-    }
-    at + j
+    out.try_extend_from_slice(w).unwrap();
 }
 
 // One fixed string or another.
-pub fn put_either(out: &mut [u8], at: usize, first: bool, a: &[u8], b: &[u8]) -> usize
-    requires { at + length (cond first a.now b.now) ≤ length out.old }
-    ensures { Put out.old at (cond first a.now b.now) out.new result }
+pub fn put_either<const N: usize>(out: &mut ArrayVec<u8, N>, first: bool, a: &[u8], b: &[u8])
+    requires { array_vec_len out.old + length (cond first a.now b.now) ≤ N }
+    ensures { out.new.items ≡ out.old.items ++ cond first a.now b.now }
 {
     if first {
-        return put_fixed(out, at, a);
+        return put_fixed(out, a);
     }
-    put_fixed(out, at, b)
+    put_fixed(out, b);
+}
+
+// A number, and the byte that ends it.
+fn put_field<const N: usize>(out: &mut ArrayVec<u8, N>, number: i128, sep: u8)
+    requires { array_vec_len out.old + length (numeral number ++ sep ∷ []) ≤ N }
+    ensures { out.new.items ≡ out.old.items ++ numeral number ++ sep ∷ [] }
+{
+    put_fixed(out, Buffer::new().format(number).as_bytes());
+    out.push(sep);
+}
+
+// A line of numbers. An i128 holds each u64, and the numbers below 0.
+pub fn put_numbers<const N: usize>(out: &mut ArrayVec<u8, N>, numbers: &[i128])
+    requires { array_vec_len out.old + length (line numbers.now) ≤ N }
+    ensures { out.new.items ≡ out.old.items ++ line numbers.now }
+{
+    for (i, number) in numbers.iter().enumerate() {
+        put_field(out, *number, lines::sep_of(numbers.len() - i - 1));
+    }
 }

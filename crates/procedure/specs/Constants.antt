@@ -1,8 +1,6 @@
--- The numbers of the procedure and of the ranges as `constants` gives them, and of the refusals as `refusal_constants` does.
+-- The numbers of the procedure and of the ranges as `constants` gives them.
 use Rattle.paper.specs.Procedure.{SERIES, SETS, POINTS, ROUNDS, IN_SERIES, PLACES, DEGREES_H, DEGREES_XY, BOOKS, KEPT, SPAN, SPREAD, EARTH, NEARBY}
-use Rattle.paper.specs.Refusals.{REGISTER, PLACE, OPEN, TERMS, CLOSED, FILLED, EMPTY, FAR, NOTHING, SHORT, SUSPECT, ZERO, ROOM, FORM}
 use Rattle.procedure.specs.declared.Numbers.{Numbers}
-use Rattle.procedure.specs.declared.Refusals.{Refusals}
 
 abbrev pub numbers : Numbers
 numbers = record {
@@ -20,22 +18,4 @@ numbers = record {
   spread = SPREAD;
   earth = EARTH;
   nearby = NEARBY;
-}
-
-abbrev pub refusals : Refusals
-refusals = record {
-  register = REGISTER;
-  place = PLACE;
-  «open» = OPEN;
-  terms = TERMS;
-  closed = CLOSED;
-  filled = FILLED;
-  empty = EMPTY;
-  far = FAR;
-  nothing = NOTHING;
-  short = SHORT;
-  suspect = SUSPECT;
-  zero = ZERO;
-  room = ROOM;
-  form = FORM;
 }

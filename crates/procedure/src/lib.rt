@@ -1,9 +1,14 @@
-// The numbers of the procedure, of the ranges and of the refusals, as constants of the code; and the test of a number that counts from 1.
+// The numbers of the procedure and of the ranges as constants of the code, the table of refusals, and the test of a number that counts
+// from 1.
 #![tactic(auto)]
 
 ghost use Rattle.std.specs.Prelude.{◌≡◌};
 ghost use Rattle.paper.specs.Units.{one_to};
-ghost use Rattle.procedure.specs.Constants.{numbers, refusals};
+ghost use Rattle.procedure.specs.Constants.{numbers};
+
+mod refusal;
+
+pub use refusal::{NOTHING, Named, Quantity, Refusal, Suspect};
 
 #[derive(Clone, Copy)]
 pub struct Procedure;
@@ -85,80 +90,6 @@ pub fn constants() -> Numbers
         spread: Range::SPREAD,
         earth: Range::EARTH,
         nearby: Range::NEARBY,
-    }
-}
-
-// The table of refusals by its names.
-#[derive(Clone, Copy)]
-pub struct Refusal;
-
-impl Refusal {
-    pub const REGISTER: u64 = 1;
-
-    pub const PLACE: u64 = 2;
-
-    pub const OPEN: u64 = 3;
-
-    pub const TERMS: u64 = 4;
-
-    pub const CLOSED: u64 = 5;
-
-    pub const FILLED: u64 = 6;
-
-    pub const EMPTY: u64 = 7;
-
-    pub const FAR: u64 = 8;
-
-    pub const NOTHING: u64 = 9;
-
-    pub const SHORT: u64 = 10;
-
-    pub const SUSPECT: u64 = 11;
-
-    pub const ZERO: u64 = 12;
-
-    pub const ROOM: u64 = 13;
-
-    pub const FORM: u64 = 14;
-}
-
-#[derive(Clone, Copy)]
-pub struct Refusals {
-    pub register: u64,
-    pub place: u64,
-    pub open: u64,
-    pub terms: u64,
-    pub closed: u64,
-    pub filled: u64,
-    pub empty: u64,
-    pub far: u64,
-    pub nothing: u64,
-    pub short: u64,
-    pub suspect: u64,
-    pub zero: u64,
-    pub room: u64,
-    pub form: u64,
-}
-
-// The constants of `Refusal` are the paper's.
-pub fn refusal_constants() -> Refusals
-    ensures { result ≡ refusals }
-{
-    Refusals {
-        register: Refusal::REGISTER,
-        place: Refusal::PLACE,
-        open: Refusal::OPEN,
-        terms: Refusal::TERMS,
-        closed: Refusal::CLOSED,
-        filled: Refusal::FILLED,
-        empty: Refusal::EMPTY,
-        far: Refusal::FAR,
-        nothing: Refusal::NOTHING,
-        short: Refusal::SHORT,
-        suspect: Refusal::SUSPECT,
-        zero: Refusal::ZERO,
-        room: Refusal::ROOM,
-        form: Refusal::FORM,
     }
 }
 

@@ -1,79 +1,69 @@
 // What is asked of a book by itself: residual and evaluation. Any Book at all may be handed in.
 #![tactic(auto)]
 
-ghost use Rattle.std.specs.Prelude.{◌≡◌, ◌<◌};
+ghost use Rattle.std.specs.Prelude.{◌≡◌, ◌<◌, IfOk};
 ghost use Rattle.std.proofs.Math.Option.{some};
 ghost use Rattle.paper.specs.Procedure.{PLACES};
-ghost use Rattle.paper.specs.Units.{place_at};
+ghost use Rattle.paper.specs.Units.{zeros, place_at};
 ghost use Rattle.paper.specs.Calls.{residual, evaluate};
-ghost use Rattle.paper.specs.Answers.{residual_at};
+ghost use Rattle.paper.specs.Answers.{lengths, residual_at};
 ghost use Rattle.paper.specs.Alone.{asked_alone};
-ghost use Rattle.image.specs.Ready.{Ready};
 ghost use Rattle.image.specs.Sights.{sight_of};
+ghost use Rattle.procedure.specs.Refused.{told};
 ghost use Rattle.book.specs.Meaning.{seen};
-ghost use Rattle.readings.specs.Answers.{lengths_by, lengths_of};
+ghost use Rattle.readings.specs.Answers.{reading_in};
 ghost use Rattle.figures.specs.Judging.{AllHeld};
-ghost use Rattle.evaluation.specs.Evaluating.{judgement_of};
-ghost use Rattle.doubles.specs.Doubles.{doubled};
+ghost use Rattle.evaluation.specs.Evaluating.{evaluation_told};
+ghost use Rattle.doubles.specs.Doubles.{Evaluates};
 
 use book::Book;
 use doubles::Evaluated;
-use evaluation::Judgement;
-use image::Layout;
+use image::{Full, Open};
+use paper::Evaluation;
 use procedure::Refusal;
-use readings::Lengths;
+use readings::Reading;
+use sums::Coordinate;
 
 // 15·r along x, y and h at a place of a full book, counted from 0 in sheet order.
-fn residuals(terms: &[u64; Layout::TERMS], cells: &[u64; Layout::CELLS], place: usize) -> Lengths
-    requires { (place < PLACES) × Ready terms.now cells.now }
-    ensures { result ≡ lengths_by 0 (residual_at (place_at place) (some (sight_of terms.now cells.now))) }
+fn residuals(book: Full<'_>, place: usize) -> Reading
+    requires { place < PLACES }
+    ensures { reading_in result ≡ lengths (residual_at (place_at place) (some (sight_of book.entry.terms.now book.entry.cells.now))) }
 {
-    let x = sums::residual(terms, cells, place, 0);
-    let y = sums::residual(terms, cells, place, 1);
-    let h = sums::residual(terms, cells, place, 2);
-    Lengths {
-        refusal: 0,
-        x,
-        y,
-        h,
+    Reading {
+        x: sums::residual(book, place, Coordinate::X),
+        y: sums::residual(book, place, Coordinate::Y),
+        h: sums::residual(book, place, Coordinate::H),
     }
 }
 
 // The residual of the reading at a place: 15·r for x, y, h.
-pub fn residual(b: Book, series: u64, set: u64, point: u64) -> Lengths
-    ensures { result ≡ lengths_of (asked_alone (λ k. residual k (record { series = series; set = set; point = point })) (seen b)) }
+pub fn residual(b: &Book, series: u64, set: u64, point: u64) -> Result<Reading, Refusal>
+    ensures { told reading_in (lengths zeros) result ≡ asked_alone (λ k. residual k (record { series = series; set = set; point = point })) (seen b.now) }
 {
-    let aim = b.aim(series, set, point);
-    let refusal = aim.refusal;
-    let place = aim.place;
-    if refusal != 0 {
-        return readings::no_lengths(refusal);
-    }
-    let terms = b.terms;
-    let cells = b.cells;
-    if places::any_empty(&cells) {
-        return readings::no_lengths(Refusal::SHORT);
-    }
-    residuals(&terms, &cells, place)
+    let place = b.aim(series, set, point)?;
+    let open = Open {
+        terms: &b.terms,
+        cells: &b.cells,
+    };
+    let full = places::full(open).ok_or(Refusal::Short)?;
+    Ok(residuals(full, place))
 }
 
 // The evaluation of a book, in whole numbers.
-pub fn judge(b: Book) -> Judgement
-    ensures { (result ≡ judgement_of (asked_alone evaluate (seen b))) × AllHeld result.evaluation }
+pub fn judge(b: &Book) -> Result<Evaluation, Refusal>
+    ensures answer { evaluation_told result ≡ asked_alone evaluate (seen b.now) }
+    ensures held { IfOk result AllHeld }
 {
-    let terms = b.terms;
-    let cells = b.cells;
-    let met = b.met();
-    if met != 0 {
-        return evaluation::not_judged(met, 0, 0, 0);
-    }
-    evaluation::judged(&terms, &cells)
+    b.met()?;
+    evaluation::judged(Open {
+        terms: &b.terms,
+        cells: &b.cells,
+    })
 }
 
 // The evaluation of a book, in millimetres.
-pub fn evaluate(b: Book) -> Evaluated
-    ensures { result ≡ doubled (judgement_of (asked_alone evaluate (seen b))) }
+pub fn evaluate(b: &Book) -> Result<Evaluated, Refusal>
+    ensures { Evaluates result (asked_alone evaluate (seen b.now)) }
 {
-    let judgement = judge(b);
-    doubles::in_millimetres(judgement)
+    Ok(doubles::in_millimetres(judge(b)?))
 }

@@ -10,6 +10,7 @@ use lib.ListN.{get_or}
 use lib.Dec.{leb, ltb}
 use lib.IntN.{ℤ, ◌-ℤ◌, sub_ℕ}
 use borrow.Author.Tests.{lt-ltb, le-ltb, le-leb, lt-leb}
+use Rattle.std.specs.Int.{abs_diff}
 use Rattle.paper.specs.Procedure.{SPAN, SPREAD, EARTH, NEARBY}
 use Rattle.integers.specs.Diff.{sub-ge, sub-lt, ≤-or-<}
 use Rattle.paper.specs.Units.{on_earth, in_range, from1_to, up_to, within, near, point_of}
@@ -43,11 +44,18 @@ one_is n w =
     (λ (h : ORIGIN < w). rw (lt-ltb ORIGIN w h) (one-most n w h))
     (≤-or-< ORIGIN w)
 
-pub close_less : (n a b : ℕ) → b < a → leb (a - b) n ≡ up_to n (len b -ℤ len a)
+close_less : (n a b : ℕ) → b < a → leb (a - b) n ≡ up_to n (len b -ℤ len a)
 close_less n a b h = let e : suc (a - suc b) ≡ a - b = omega arith in rw (len-minus b a, sub-lt b a h, e)
 
-pub close_more : (n a b : ℕ) → a ≤ b → leb (b - a) n ≡ up_to n (len b -ℤ len a)
+close_more : (n a b : ℕ) → a ≤ b → leb (b - a) n ≡ up_to n (len b -ℤ len a)
 close_more n a b h = rw (len-minus b a, sub-ge b a h)
+
+pub close_is : (n a b : ℕ) → leb (abs_diff a b) n ≡ up_to n (len b -ℤ len a)
+close_is n a b =
+    ⊎_elim
+    (λ (h : a ≤ b). let e : a - b + (b - a) ≡ b - a = omega arith in rw e (close_more n a b h))
+    (λ (h : b < a). let e : a - b + (b - a) ≡ a - b = omega arith in rw e (close_less n a b h))
+    (≤-or-< b a)
 
 -- from the length 0
 length_is : (w : ℕ) → sub_ℕ w ORIGIN ≡ len w

@@ -22,10 +22,7 @@ fn from_1_to(n: u64, w: u64) -> bool
 fn close(n: u64, a: u64, b: u64) -> bool
     ensures { result ≡ up_to n (len b -ℤ len a) }
 {
-    if b < a {
-        return a - b <= n;
-    }
-    b - a <= n
+    a.abs_diff(b) <= n
 }
 
 // On each axis at most n from a point.

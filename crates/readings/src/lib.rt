@@ -4,13 +4,47 @@
 ghost use Rattle.std.specs.Prelude.{◌≡◌};
 ghost use Rattle.paper.specs.Units.{zeros};
 ghost use Rattle.paper.specs.Calls.{read, changes};
+ghost use Rattle.paper.specs.Answers.{lengths, count};
 ghost use Rattle.paper.specs.Alone.{asked_alone};
+ghost use Rattle.procedure.specs.Refused.{told};
 ghost use Rattle.book.specs.Meaning.{seen};
-ghost use Rattle.readings.specs.Answers.{lengths_by, lengths_of, count_by, count_of};
+ghost use Rattle.readings.specs.Answers.{reading_in, lengths_of, count_of};
 
 use book::Book;
 use image::Layout;
 use procedure::Refusal;
+
+#[derive(Clone, Copy)]
+pub struct Reading {
+    pub x: i64,
+    pub y: i64,
+    pub h: i64,
+}
+
+// ---- what stands there
+
+// What stands at a place.
+pub fn read(b: &Book, series: u64, set: u64, point: u64) -> Result<Reading, Refusal>
+    ensures { told reading_in (lengths zeros) result ≡ asked_alone (λ k. read k (record { series = series; set = set; point = point })) (seen b.now) }
+{
+    let place = b.sought(series, set, point, Some(Refusal::Empty), None)?;
+    let first = place * Layout::READING;
+    Ok(Reading {
+        x: numbers::length_of(b.cells[first]),
+        y: numbers::length_of(b.cells[first + 1]),
+        h: numbers::length_of(b.cells[first + 2]),
+    })
+}
+
+// How many changes can be taken back.
+pub fn changes(b: &Book) -> Result<u64, Refusal>
+    ensures { told count (count 0) result ≡ asked_alone changes (seen b.now) }
+{
+    b.met()?;
+    Ok(b.kept)
+}
+
+// ---- as C takes it
 
 #[repr(C)]
 #[derive(Clone, Copy)]
@@ -21,6 +55,29 @@ pub struct Lengths {
     pub h: i64,
 }
 
+// Beside a refusal lengths are 0.
+impl From<Result<Reading, Refusal>> for Lengths {
+    ghost from_gives = { λ r l. l ≡ lengths_of (told reading_in (lengths zeros) r) };
+
+    #[tactic(auto, unfolding(crate::specs::Answers::lengths_of))]
+    fn from(answer: Result<Reading, Refusal>) -> Lengths {
+        match answer {
+            Ok(reading) => Lengths {
+                refusal: 0,
+                x: reading.x,
+                y: reading.y,
+                h: reading.h,
+            },
+            Err(refusal) => Lengths {
+                refusal: refusal.number(),
+                x: 0,
+                y: 0,
+                h: 0,
+            },
+        }
+    }
+}
+
 #[repr(C)]
 #[derive(Clone, Copy)]
 pub struct Count {
@@ -28,53 +85,18 @@ pub struct Count {
     pub count: u64,
 }
 
-// Beside a refusal lengths are 0.
-pub fn no_lengths(refusal: u64) -> Lengths
-    ensures { result ≡ lengths_by refusal zeros }
-{
-    Lengths {
-        refusal,
-        x: 0,
-        y: 0,
-        h: 0,
-    }
-}
-
 // Beside a refusal a count is 0.
-pub fn no_count(refusal: u64) -> Count
-    ensures { result ≡ count_by refusal 0 }
-{
-    Count { refusal, count: 0 }
-}
+impl From<Result<u64, Refusal>> for Count {
+    ghost from_gives = { λ r c. c ≡ count_of (told count (count 0) r) };
 
-// What stands at a place.
-pub fn read(b: Book, series: u64, set: u64, point: u64) -> Lengths
-    ensures { result ≡ lengths_of (asked_alone (λ k. read k (record { series = series; set = set; point = point })) (seen b)) }
-{
-    let aim = b.sought(series, set, point, Refusal::EMPTY, 0);
-    if aim.refusal != 0 {
-        return no_lengths(aim.refusal);
-    }
-    let cells = b.cells;
-    let m = aim.place * Layout::READING;
-    Lengths {
-        refusal: 0,
-        x: numbers::length_of(cells[m]),
-        y: numbers::length_of(cells[m + 1]),
-        h: numbers::length_of(cells[m + 2]),
-    }
-}
-
-// How many changes can be taken back.
-pub fn changes(b: Book) -> Count
-    ensures { result ≡ count_of (asked_alone changes (seen b)) }
-{
-    let met = b.met();
-    if met != 0 {
-        return no_count(met);
-    }
-    Count {
-        refusal: 0,
-        count: b.kept,
+    #[tactic(auto, unfolding(crate::specs::Answers::count_of))]
+    fn from(answer: Result<u64, Refusal>) -> Count {
+        match answer {
+            Ok(count) => Count { refusal: 0, count },
+            Err(refusal) => Count {
+                refusal: refusal.number(),
+                count: 0,
+            },
+        }
     }
 }

@@ -5,10 +5,9 @@ use native.Mathlib.Omega.{arith}
 use native.Mathlib.Nat.{zero-add}
 use mathlib.Core.Path.{◌≡◌, sym, ap, ◌∙◌}
 use mathlib.Core.Bool.{true, false}
-use mathlib.Core.List.{List, ◌++◌, append-nil}
-use lib.ListN.{length, take, drop, replicate}
+use mathlib.Core.List.{List, ◌++◌}
+use lib.ListN.{length, drop, replicate}
 use lib.Dec.{ltb}
-use lib.Seq.{length-take-le, drop-length}
 use borrow.Author.Tests.{eq-eqb, ne_eqb, lt-ltb, le-ltb}
 use Rattle.paper.specs.Procedure.{BOOKS}
 use Rattle.paper.specs.Books as paper
@@ -31,31 +30,25 @@ module _ (bs buffer : List ℕ) where
   unfolding called call_on shut beside count_of list_after pasted
   list_unformed e = (rw (state-out bs e), rw (state-out bs e))
 
-  module _ (e : in_form bs ≡ true) (numbers : List ℕ) (n : ℕ) (l : take n numbers ≡ passing (paper.sights (meant_from BOOKS bs))) (m : n ≤ length numbers) where
+  module _ (e : in_form bs ≡ true) (l : List ℕ) (m : l ≡ passing (paper.sights (meant_from BOOKS bs))) where
     abbrev p : List ℕ
     p = passing (paper.sights (meant_from BOOKS bs))
 
-    count_is : length p ≡ n
-    count_is = ap length (sym l) ∙ length-take-le n numbers m
-
-    pub list_room : length buffer < n
+    pub list_room : length buffer < length l
         → (count_by ROOM 0 ≡ count_of (called (ask (pass_list (length buffer))) bs).answer) × (buffer ≡ list_after (called (ask (pass_list (length buffer))) bs).answer buffer)
     unfolding called call_on says lowest questioned beside count_of list_after pasted
     list_room h =
-        let z : ltb (length buffer) (length p) ≡ true = lt-ltb (length buffer) (length p) (omega (arith, count_is)) in
+        let z : ltb (length buffer) (length p) ≡ true = lt-ltb (length buffer) (length p) (omega (arith, ap length m)) in
         (rw (state_in bs e, z), rw (state_in bs e, z))
 
-    pub list_written : (out : List ℕ) → n ≤ length buffer → out ≡ take n numbers ++ drop (length (take n numbers)) buffer
-        → (count_by 0 n ≡ count_of (called (ask (pass_list (length buffer))) bs).answer) × (out ≡ list_after (called (ask (pass_list (length buffer))) bs).answer buffer)
+    pub list_written : (out : List ℕ) → length l ≤ length buffer → out ≡ l ++ drop (length l) buffer
+        → (count_by 0 (length l) ≡ count_of (called (ask (pass_list (length buffer))) bs).answer) × (out ≡ list_after (called (ask (pass_list (length buffer))) bs).answer buffer)
     unfolding called call_on says lowest questioned given count_of list_after pasted
     list_written out h w =
-        let z : ltb (length buffer) (length p) ≡ false = le-ltb (length buffer) (length p) (omega (arith, count_is)) in
-        (rw (state_in bs e, z) (ap (count_by 0) (sym count_is)), rw (state_in bs e, z, zero-add (length p)) (w ∙ ap (λ (q : List ℕ). q ++ drop (length q) buffer) l))
+        let z : ltb (length buffer) (length p) ≡ false = le-ltb (length buffer) (length p) (omega (arith, ap length m)) in
+        (rw (state_in bs e, z) (ap (λ (q : List ℕ). count_by 0 (length q)) m), rw (state_in bs e, z, zero-add (length p)) (w ∙ ap (λ (q : List ℕ). q ++ drop (length q) buffer) m))
 
 -- ---- a fresh register
-
-pub cleared_all : (out l : List ℕ) (i : ℕ) → i ≡ length out → l ≡ replicate i 0 ++ drop i out → l ≡ replicate (length out) 0
-cleared_all out l i h e = e ∙ rw (h, drop-length out, append-nil)
 
 pub fresh_refused : (bs : List ℕ) → (length bs ≡ LENGTH → ⊥) → Calls fresh bs REGISTER bs
 unfolding called call_on shut

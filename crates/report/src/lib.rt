@@ -1,55 +1,51 @@
 // What the program prints of an evaluation.
 #![tactic(auto)]
 
-ghost use Rattle.std.specs.Prelude.{◌≡◌, ◌≤◌, length};
-ghost use Rattle.printing.specs.Given.{Put};
-ghost use Rattle.axes.specs.Given.{Fits, FitsAxis};
-ghost use Rattle.report.specs.Text.{refusal_text, report_text};
-ghost use Rattle.report.specs.Given.{suspect, held};
+ghost use Rattle.std.specs.Prelude.{◌≡◌, ◌++◌, ◌+◌, ◌≤◌, length};
+ghost use Rattle.arrayvec.specs.ArrayVec.{array_vec_len};
+ghost use Rattle.procedure.specs.Refused.{number_of, named_by};
+ghost use Rattle.evaluation.specs.Evaluating.{evaluation_told};
+ghost use Rattle.report.specs.Text.{refusal_text, report_of};
+ghost use Rattle.report.specs.Given.{FitsAnswer, held};
 
-use image::ORIGIN;
-use paper::Judged;
+use arrayvec::ArrayVec;
+use paper::Evaluation;
 use procedure::Refusal;
 
 // The bytes in which a report is held; no report is longer.
 const REPORT: usize = 80;
 
-// The first `len` bytes are the text.
-#[derive(Clone, Copy)]
-pub struct Printed {
-    pub bytes: [u8; REPORT],
-    pub len: usize,
-}
+// The text of a report, without the heap.
+pub type Report = ArrayVec<u8, REPORT>;
 
 // REFUSED and the numbers.
-fn put_refusal(out: &mut [u8], refusal: u64, series: u64, set: u64, quantity: u64) -> usize
-    requires { Fits refusal × Fits series × Fits set × Fits quantity × (length (refusal_text refusal (suspect series set quantity)) ≤ length out.old) }
-    ensures { Put out.old 0 (refusal_text refusal (suspect series set quantity)) out.new result }
+fn put_refusal<const N: usize>(out: &mut ArrayVec<u8, N>, refusal: Refusal)
+    requires { array_vec_len out.old + length (refusal_text (number_of refusal) (named_by refusal)) ≤ N }
+    ensures { out.new.items ≡ out.old.items ++ refusal_text (number_of refusal) (named_by refusal) }
 {
-    let i = printing::put_fixed(out, 0, b"REFUSED ");
-    if refusal == Refusal::SUSPECT {
-        let t = [
-            refusal + ORIGIN,
-            series + ORIGIN,
-            set + ORIGIN,
-            quantity + ORIGIN,
-        ];
-        return printing::put_numbers(out, i, &t);
+    printing::put_fixed(out, b"REFUSED ");
+    let named = refusal.names();
+    let numbers = [
+        i128::from(refusal.number()),
+        i128::from(named.series),
+        i128::from(named.set),
+        i128::from(named.quantity),
+    ];
+    match refusal {
+        Refusal::Suspect(_) => printing::put_numbers(out, &numbers),
+        _ => printing::put_numbers(out, &numbers[..1]),
     }
-    let t = [refusal + ORIGIN];
-    printing::put_numbers(out, i, &t)
 }
 
 // The report of an evaluation's answer.
-pub fn report(refusal: u64, series: u64, set: u64, quantity: u64, xy: Judged, h: Judged) -> Printed
-    requires { Fits refusal × Fits series × Fits set × Fits quantity × FitsAxis xy × FitsAxis h }
-    ensures { result ≡ held (report_text refusal (suspect series set quantity) xy h) }
+pub fn report(answer: Result<Evaluation, Refusal>) -> Report
+    requires { FitsAnswer answer }
+    ensures { result ≡ held (report_of (evaluation_told answer)) }
 {
-    let mut bytes = [0u8; REPORT];
-    if refusal == 0 {
-        let len = verdicts::put_verdicts(&mut bytes, xy, h);
-        return Printed { bytes, len };
+    let mut out = Report::new();
+    match answer {
+        Ok(e) => verdicts::put_verdicts(&mut out, e.xy, e.h),
+        Err(refusal) => put_refusal(&mut out, refusal),
     }
-    let len = put_refusal(&mut bytes, refusal, series, set, quantity);
-    Printed { bytes, len }
+    out
 }

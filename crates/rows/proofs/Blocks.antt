@@ -8,6 +8,8 @@ use native.Mathlib.Omega.{arith}
 use native.Mathlib.Nat.{zero-add, suc-add, zero-mul, suc-mul}
 use lib.ListN.{set, length, take, drop, get_or, replicate, length-append, replicate-append-replicate}
 use lib.Seq.{drop-drop, take-add, drop_at}
+use Rattle.std.specs.List.{list_all, range_with_len}
+use Rattle.std.specs.Simd.{first_chunks}
 use Rattle.rows.specs.Lists.{all?}
 use Rattle.rows.specs.Blocks.{blocks, laid}
 use Rattle.rows.specs.Paste.{pasted}
@@ -63,6 +65,21 @@ module _ {A : Type 0} (w : ℕ) (f : List ℕ → A) where
       rest k m =
           let e : suc k * w ≡ w + k * w = omega (arith, suc-mul k w) in
           rw (drop-drop (k * w) w l) (rw e at (h (suc k) (omega arith)))
+
+  -- the same test, made of each block by its number
+  pub tests_by : (p : A → Bool) (n k : ℕ) (l : List ℕ) → list_all (λ i. p (f (drop (i * w) l))) (range_with_len k n) ≡ all? p (blocks w f n (drop (k * w) l))
+  unfolding blocks all?
+  tests_by p zero k l = refl
+  tests_by p (suc n) k l =
+      let s : k + 1 ≡ suc k = omega arith in
+      let e : k * w + w ≡ (k + 1) * w = rw s (omega (arith, suc-mul k w)) in
+      rw (tests_by p n (k + 1) l, drop-drop w (k * w) l, e)
+
+-- std's chunks are blocks
+pub chunks_blocks : (w n : ℕ) (l : List ℕ) → first_chunks w n l ≡ blocks w (take w) n l
+unfolding blocks
+chunks_blocks w zero l = refl
+chunks_blocks w (suc n) l = ap (λ (r : List (List ℕ)). take w l ∷ r) (chunks_blocks w n (drop w l))
 
 -- ---- things laid one after another
 

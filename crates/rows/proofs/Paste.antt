@@ -2,12 +2,13 @@
 -- Assumes nothing.
 use mathlib.Core.Path.{◌≡◌, refl, sym, ap, ◌∙◌}
 use mathlib.Core.List.{List, [], ◌∷◌, ◌++◌, append_assoc}
-use Prim.Native.Nat.{ℕ, suc, ◌+◌, ◌≤◌, ◌<◌}
-use native.Mathlib.Numerals.{unary_clauses, add-one}
+use Prim.Native.Nat.{ℕ, suc, ◌+◌, ◌≤◌}
+use native.Mathlib.Numerals.{unary_clauses}
 use native.Mathlib.Omega.{arith}
 use native.Mathlib.Nat.{add-zero, zero-add}
-use lib.ListN.{set, length, take, drop, get_or, length-append, take-append-drop}
-use lib.Seq.{length-take-le, take_at, drop_at, drop-append-add, drop-drop, sets, sets-eq, paste-suc}
+use lib.ListN.{set, length, take, drop, length-append, take-append-drop}
+use lib.Seq.{length-take-le, take_at, drop_at, drop-append-add, drop-drop, sets, sets-eq}
+use borrow.Rule.Slice.PartMut.{put_mid}
 use Rattle.rows.specs.Paste.{pasted}
 
 pub pasted-nil : (r : List ℕ) (a : ℕ) → pasted r a [] ≡ r
@@ -39,11 +40,10 @@ pasted-then r a xs p ys e h =
     let m : p + length ys ≡ a + length (xs ++ ys) = omega (arith, length-append xs ys) in
     rw (f, take_at (take a r ++ xs) (drop p r) p l, g, m, append_assoc, append_assoc)
 
--- ---- a row copied over the start of another, one element after the other
-
-pub copied_more : (xs out : List ℕ) (i : ℕ) → i < length xs → length xs ≤ length out
-    → set (take i xs ++ drop i out) i (get_or xs i 0) ≡ take (i + 1) xs ++ drop (i + 1) out
-copied_more xs out i h e = rw (add-one i) (rw (zero-add i, zero-add (suc i)) at (paste-suc out 0 xs i 0 (omega arith) h))
+-- a part of a row written whole, as `copy_from_slice` writes it
+pub put_mid-pasted : (a k : ℕ) (r ys zs : List ℕ) → ys ≡ zs → k ≡ length zs → put_mid a k r ys ≡ pasted r a zs
+unfolding pasted
+put_mid-pasted a k r ys zs e f = rw (e, f, drop-drop (length zs) a r)
 
 -- ---- what stands in a row after a paste
 
@@ -56,7 +56,7 @@ next-drop r x z p n q e l h = rw (h, ← drop-drop, e) (drop_at x z n l)
 
 -- ---- stores, one after the other
 
-pub stores_pasted : (vs l : List ℕ) (at : ℕ) → at + length vs ≤ length l → sets l at vs ≡ pasted l at vs
+stores_pasted : (vs l : List ℕ) (at : ℕ) → at + length vs ≤ length l → sets l at vs ≡ pasted l at vs
 unfolding pasted
 stores_pasted vs l at h = sets-eq vs l at h ∙ append_assoc (take at l) vs (drop (at + length vs) l)
 

@@ -1,4 +1,4 @@
-// Rows of numbers: in blocks of one width, pasted over one another, and what holds of each element (specs/, proofs/). The code is one cast.
+// Rows of numbers: in blocks of one width, pasted over one another, and what holds of each element (specs/, proofs/). The code is one conversion.
 #![tactic(auto)]
 
 ghost use Rattle.std.specs.Prelude.{◌≡◌, ◌<◌};
@@ -7,5 +7,5 @@ ghost use Rattle.std.specs.Prelude.{◌≡◌, ◌<◌};
 pub fn wide(x: u8) -> u64
     ensures { (result ≡ x) × (result < 256) }
 {
-    x as u64
+    u64::from(x)
 }

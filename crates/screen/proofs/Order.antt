@@ -1,18 +1,12 @@
 -- The search in sheet order, a set at a time: none so far, and the first is at hand.
 -- Assumes nothing.
-use Prim.Native.Nat.{ℕ, zero, suc, ◌+◌, ◌-◌, ◌≤◌}
-use native.Mathlib.Omega.{arith}
-use mathlib.Core.Path.{◌≡◌, sym, ap, ◌∙◌, subst}
-use mathlib.Core.Bool.{Bool, true, false, cond}
-use mathlib.Core.Option.{none, some}
-use mathlib.Core.List.{List, [], ◌∷◌, ◌++◌}
+use Rattle.std.proofs.Common.{ℕ, zero, suc, ◌+◌, ◌-◌, ◌≤◌, arith, ◌≡◌, sym, ◌∙◌, subst, Bool, true, false, cond, List, [], ◌∷◌, ◌++◌}
+use Rattle.std.proofs.Math.Option.{none, some}
 use Rattle.paper.specs.Procedure.{SERIES, SETS}
 use Rattle.paper.specs.Units.{Terms, Places}
 use Rattle.paper.specs.Screening.{Suspect, suspicious, each, sheet_order, None, first, first_suspect}
 use Rattle.paper.proofs.Agreement.{first_is, first_past, none_app}
 use Rattle.sets.specs.Words.{distance, height}
-use Rattle.screen.specs.Named.{found_of}
-use Rattle.screen.specs.declared.Found.TheVariants.{Nowhere, At}
 
 -- ---- over any list and test
 
@@ -76,15 +70,15 @@ unfolding each
 start-row t l i = tt
 
 module _ (t : Terms) (l : Places) (i j : ℕ) (lo : 1 ≤ i) (hi : i ≤ SERIES) (lo' : 1 ≤ j) (hi' : j ≤ SETS) (a : SeriesClear t l i) (b : SetsClear t l i j) where
-  found : (s : Suspect) → first (suspicious t l) (pair i j) ≡ some s → found_of (first_suspect t l) ≡ At s.series s.set s.quantity
+  found : (s : Suspect) → first (suspicious t l) (pair i j) ≡ some s → first_suspect t l ≡ some s
   unfolding first_suspect sheet_order
-  found s e = ap found_of (each-found (suspicious t l) row SERIES i s lo hi a (each-found (suspicious t l) (pair i) SETS j s lo' hi' b e))
+  found s e = each-found (suspicious t l) row SERIES i s lo hi a (each-found (suspicious t l) (pair i) SETS j s lo' hi' b e)
 
-  pub at-distance : suspicious t l (distance i j) ≡ true → At i j 1 ≡ found_of (first_suspect t l)
+  pub at-distance : suspicious t l (distance i j) ≡ true → some (distance i j) ≡ first_suspect t l
   unfolding first
   at-distance e = sym (found (distance i j) (rw e))
 
-  pub at-height : suspicious t l (distance i j) ≡ false → suspicious t l (height i j) ≡ true → At i j 2 ≡ found_of (first_suspect t l)
+  pub at-height : suspicious t l (distance i j) ≡ false → suspicious t l (height i j) ≡ true → some (height i j) ≡ first_suspect t l
   unfolding first
   at-height e g = sym (found (height i j) (rw (e, g)))
 
@@ -94,6 +88,6 @@ module _ (t : Terms) (l : Places) (i j : ℕ) (lo : 1 ≤ i) (hi : i ≤ SERIES)
 pub on-series : (t : Terms) (l : Places) (i j : ℕ) → 1 ≤ i → j ≡ SETS + 1 → SeriesClear t l i → SetsClear t l i j → SeriesClear t l (i + 1)
 on-series t l i j lo e a b = each_on (suspicious t l) row i lo a (subst (λ (k : ℕ). SetsClear t l i k) e b)
 
-pub nowhere : (t : Terms) (l : Places) (i : ℕ) → i ≡ SERIES + 1 → SeriesClear t l i → Nowhere ≡ found_of (first_suspect t l)
+pub nowhere : (t : Terms) (l : Places) (i : ℕ) → i ≡ SERIES + 1 → SeriesClear t l i → none ≡ first_suspect t l
 unfolding first_suspect sheet_order
-nowhere t l i e a = sym (ap found_of (first_is (suspicious t l) sheet_order none (subst (λ (k : ℕ). SeriesClear t l k) e a)))
+nowhere t l i e a = sym (first_is (suspicious t l) sheet_order none (subst (λ (k : ℕ). SeriesClear t l k) e a))

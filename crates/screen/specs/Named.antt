@@ -1,9 +1,10 @@
--- What the code says of the first suspect.
-use Rattle.std.proofs.Math.Option.{Option, none, some}
-use Rattle.paper.specs.Screening.{Suspect}
-use Rattle.screen.specs.declared.Found.{Found}
-use Rattle.screen.specs.declared.Found.TheVariants.{Nowhere, At}
+-- The suspect that the code found, as the paper's.
+use Rattle.std.specs.Prelude.{Option, Some, None}
+use Rattle.std.proofs.Math.Option as math
+use Rattle.paper.specs.Screening as paper
+use Rattle.procedure.specs.declared.refusal.Suspect.{Suspect}
+use Rattle.procedure.specs.Refused.{suspect_named}
 
-abbrev pub found_of : Option Suspect → Found
-found_of none = Nowhere
-found_of (some s) = At s.series s.set s.quantity
+abbrev pub found_of : Option Suspect → math.Option paper.Suspect
+found_of None = math.none
+found_of (Some s) = math.some (suspect_named s)

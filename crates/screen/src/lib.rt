@@ -1,38 +1,38 @@
-// The screening of a full book in form, from its words.
+// The screening of a full book, from its words.
 #![tactic(auto)]
 
 ghost use Rattle.std.specs.Prelude.{◌≡◌};
 ghost use Rattle.paper.specs.Screening.{first_suspect};
 ghost use Rattle.image.specs.Lengths.{terms_of};
 ghost use Rattle.image.specs.Places.{places_of};
-ghost use Rattle.image.specs.Ready.{Ready};
 ghost use Rattle.screen.specs.Named.{found_of};
 
-use image::{Layout, Term};
-use procedure::Procedure;
+use image::{Full, Term};
+use procedure::{Procedure, Quantity, Suspect};
 
-// A suspect: its series, its set, and 1 for the distance or 2 for the height.
-#[derive(Clone, Copy)]
-pub enum Found {
-    Nowhere,
-    At(u64, u64, u64),
-}
-
-// The first suspect set in the order of the field sheet, distance before height in a set.
-pub fn first_suspect(terms: &[u64; Layout::TERMS], cells: &[u64; Layout::CELLS]) -> Found
-    requires { Ready terms.now cells.now }
-    ensures { result ≡ found_of (first_suspect (terms_of terms.now) (places_of cells.now)) }
+// The first suspect set in the order of the field sheet, distance before height in a set. Document 01 names the form: nested loops,
+// left by a label.
+pub fn first_suspect(book: Full<'_>) -> Option<Suspect>
+    ensures { found_of result ≡ first_suspect (terms_of book.entry.terms.now) (places_of book.entry.cells.now) }
 {
-    let most = limits::most_passing(terms[Term::SCREEN_XY]);
-    let mut found = Found::Nowhere;
+    let most = limits::most_passing(book.terms[Term::SCREEN_XY]);
+    let mut found = None;
     'search: for series in 1..=Procedure::SERIES {
         for set in 1..=Procedure::SETS {
-            if sets::distance_suspect(terms, cells, series, set, most) {
-                found = Found::At(series as u64, set as u64, 1);
+            if sets::distance_suspect(book, series, set, most) {
+                found = Some(Suspect {
+                    series: series as u64,
+                    set: set as u64,
+                    quantity: Quantity::Distance,
+                });
                 break 'search;
             }
-            if sets::height_suspect(terms, cells, series, set) {
-                found = Found::At(series as u64, set as u64, 2);
+            if sets::height_suspect(book, series, set) {
+                found = Some(Suspect {
+                    series: series as u64,
+                    set: set as u64,
+                    quantity: Quantity::Height,
+                });
                 break 'search;
             }
         }

@@ -1,13 +1,6 @@
 -- What the words of a set say of its readings.
 -- Assumes nothing.
-use Prim.Native.Nat.{ℕ, ◌+◌, ◌-◌, ◌*◌, ◌%◌, ◌≤◌, ◌<◌}
-use native.Mathlib.Omega.{arith}
-use mathlib.Core.Path.{◌≡◌, ap, ◌∙◌}
-use mathlib.Core.Bool.{Bool, not}
-use mathlib.Core.List.{List}
-use lib.ListN.{get_or}
-use lib.Dec.{ltb}
-use lib.IntN.{pos, nat_abs, ◌-ℤ◌}
+use Rattle.std.proofs.Common.{ℕ, ◌+◌, ◌-◌, ◌*◌, ◌%◌, ◌≤◌, ◌<◌, arith, ◌≡◌, ap, ◌∙◌, Bool, not, List, get_or, ltb, pos, nat_abs, ◌-ℤ◌}
 use Rattle.whole.specs.Nearest.{nearest_of}
 use Rattle.paper.specs.Procedure.{SERIES, SETS, POINTS, SPREAD}
 use Rattle.paper.specs.Units.{in_order}

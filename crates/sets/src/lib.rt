@@ -1,4 +1,4 @@
-// A set of a full book in form, from its words: whether its distance or its height is suspect.
+// A set of a full book, from its words: whether its distance or its height is suspect.
 #![tactic(auto)]
 
 ghost use Rattle.std.specs.Prelude.{◌≡◌, ◌+◌, ◌≤◌, ◌<◌};
@@ -7,11 +7,10 @@ ghost use Rattle.paper.specs.Screening.{suspicious};
 ghost use Rattle.image.specs.Layout.{CELL_WORDS};
 ghost use Rattle.image.specs.Lengths.{terms_of};
 ghost use Rattle.image.specs.Places.{places_of};
-ghost use Rattle.image.specs.Ready.{Ready};
 ghost use Rattle.limits.specs.Most.{most_passing};
 ghost use Rattle.sets.specs.Words.{words_from, Close, q_of, distance, height};
 
-use image::{Layout, ORIGIN, Term};
+use image::{Full, Layout, ORIGIN, Term};
 use procedure::Procedure;
 
 // Where the words of a set start: x, y, h of point 1, then of point 2.
@@ -33,32 +32,22 @@ fn q_from(cells: &[u64; Layout::CELLS], m: usize) -> u64
 }
 
 // Whether the distance of a set is suspect: further from D* than the greatest difference that passes.
-pub fn distance_suspect(
-    terms: &[u64; Layout::TERMS],
-    cells: &[u64; Layout::CELLS],
-    series: usize,
-    set: usize,
-    most: u64,
-) -> bool
-    requires { (1 ≤ series) × (series ≤ SERIES) × (1 ≤ set) × (set ≤ SETS) × Ready terms.now cells.now × (most ≡ most_passing (terms_of terms.now).screen_xy) }
-    ensures { result ≡ suspicious (terms_of terms.now) (places_of cells.now) (distance series set) }
+pub fn distance_suspect(book: Full<'_>, series: usize, set: usize, most: u64) -> bool
+    requires { (1 ≤ series) × (series ≤ SERIES) × (1 ≤ set) × (set ≤ SETS) × (most ≡ most_passing (terms_of book.terms.now).screen_xy) }
+    ensures { result ≡ suspicious (terms_of book.entry.terms.now) (places_of book.entry.cells.now) (distance series set) }
 {
     let m = words_from(series, set);
-    let q = q_from(cells, m);
-    limits::further(q, terms[Term::DISTANCE] - ORIGIN, most)
+    let q = q_from(book.cells, m);
+    limits::further(q, book.terms[Term::DISTANCE] - ORIGIN, most)
 }
 
 // Whether the height of a set is suspect.
-pub fn height_suspect(
-    terms: &[u64; Layout::TERMS],
-    cells: &[u64; Layout::CELLS],
-    series: usize,
-    set: usize,
-) -> bool
-    requires { (1 ≤ series) × (series ≤ SERIES) × (1 ≤ set) × (set ≤ SETS) × Ready terms.now cells.now }
-    ensures { result ≡ suspicious (terms_of terms.now) (places_of cells.now) (height series set) }
+pub fn height_suspect(book: Full<'_>, series: usize, set: usize) -> bool
+    requires { (1 ≤ series) × (series ≤ SERIES) × (1 ≤ set) × (set ≤ SETS) }
+    ensures { result ≡ suspicious (terms_of book.entry.terms.now) (places_of book.entry.cells.now) (height series set) }
 {
     let m = words_from(series, set);
-    let d = limits::apart(cells[m + 5] + ORIGIN - cells[m + 2], terms[Term::HEIGHT]);
-    limits::beyond(terms[Term::SCREEN_H], d)
+    let rise = book.cells[m + 5] + ORIGIN - book.cells[m + 2];
+    let d = limits::apart(rise, book.terms[Term::HEIGHT]);
+    limits::beyond(book.terms[Term::SCREEN_H], d)
 }

@@ -1,19 +1,17 @@
 -- The ways to turn a call away and to put a book back.
 -- Assumes nothing.
-use Prim.Native.Nat.{ℕ, ◌≤◌}
-use native.Mathlib.Omega.{arith}
-use mathlib.Core.Path.{◌≡◌, refl, sym, ◌∙◌}
-use mathlib.Core.Bool.{Bool, true, false, cond}
-use mathlib.Core.List.{List}
-use lib.Dec.{eqb}
-use borrow.Author.Tests.{eqb-true}
+use Rattle.std.proofs.Common.{◌≡◌, refl, sym, ◌∙◌, ℕ, ◌≤◌, arith, Bool, true, false, cond, List, eqb, eqb-true}
+use Rattle.std.specs.Prelude.{Result, Ok, Err}
 use Rattle.paper.specs.Procedure.{BOOKS}
 use Rattle.paper.specs.Units.{one_to}
 use Rattle.paper.specs.Refusals.{REGISTER, PLACE}
-use Rattle.paper.specs.Answers.{unless}
+use Rattle.paper.specs.Answers.{unless, Value}
 use Rattle.paper.proofs.Tests.{among}
 use Rattle.paper.proofs.Acts.{unless-refused}
-use Rattle.shelving.specs.Steps.{turned_away}
+use Rattle.procedure.specs.declared.refusal.Refusal.{Refusal}
+use Rattle.procedure.specs.declared.refusal.Refusal.TheVariants as is
+use Rattle.procedure.specs.Refused.{told}
+use Rattle.shelving.specs.Steps.{turned_away, meets_register, addressed_of}
 
 -- ---- turned away
 
@@ -35,6 +33,43 @@ module _ (k : ℕ) where
       go true j v w = absurd (omega (arith, w))
       go false true v w = let h = among BOOKS k v in (h.0, h.1, w)
       go false false v w = absurd (omega (arith, w))
+
+-- ---- an answer
+
+module _ {A : Type 0} (k : ℕ) (r : Result A Refusal) where
+  pub addressed-among : one_to BOOKS k ≡ true → addressed_of k r ≡ r
+  unfolding addressed_of
+  addressed-among e = rw e (go (meets_register r))
+    where
+      go : (i : Bool) → cond i r r ≡ r
+      go true = refl
+      go false = refl
+
+  pub addressed-register : meets_register r ≡ true → addressed_of k r ≡ r
+  unfolding addressed_of
+  addressed-register e = rw e
+
+  pub addressed-outside : meets_register r ≡ false → one_to BOOKS k ≡ false → addressed_of k r ≡ Err is.Place
+  unfolding addressed_of
+  addressed-outside e f = rw (e, f)
+
+-- REGISTER by its number
+pub meets_is : {A : Type 0} (give : A → Value) (x : Value) (r : Result A Refusal) → meets_register r ≡ eqb (told give x r).refused REGISTER
+meets_is give x (Ok a) = refl
+meets_is give x (Err is.Register) = refl
+meets_is give x (Err is.Place) = refl
+meets_is give x (Err is.Open) = refl
+meets_is give x (Err is.Terms) = refl
+meets_is give x (Err is.Closed) = refl
+meets_is give x (Err is.Filled) = refl
+meets_is give x (Err is.Empty) = refl
+meets_is give x (Err is.Far) = refl
+meets_is give x (Err is.Nothing) = refl
+meets_is give x (Err is.Short) = refl
+meets_is give x (Err (is.Suspect s)) = refl
+meets_is give x (Err is.Zero) = refl
+meets_is give x (Err is.Room) = refl
+meets_is give x (Err is.Form) = refl
 
 -- ---- put back
 

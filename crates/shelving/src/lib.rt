@@ -4,23 +4,36 @@
 ghost use Rattle.std.specs.Prelude.{◌≡◌, length};
 ghost use Rattle.paper.specs.Answers.{unless};
 ghost use Rattle.lent.specs.Image.{LENGTH};
-ghost use Rattle.shelving.specs.Steps.{turned_away, placed_at};
+ghost use Rattle.shelving.specs.Steps.{turned_away, addressed_of, placed_at};
 
 use book::Step;
 use image::Layout;
 use procedure::Refusal;
 
 // What a call on the book of that number is refused by, where the book met this: REGISTER comes first, then PLACE.
+#[tactic(auto, unfolding(crate::specs::Steps::turned_away))]
 pub fn turned_away(book: u64, met: u64) -> u64
     ensures { result ≡ turned_away book met }
 {
-    if met == Refusal::REGISTER {
-        return Refusal::REGISTER;
+    if met == Refusal::Register.number() {
+        return met;
     }
     if lent::is_book(book) {
         return met;
     }
-    Refusal::PLACE
+    Refusal::Place.number()
+}
+
+// What a question of the book of that number is answered, where the book answered this: the same two come first.
+#[tactic(auto, unfolding(crate::specs::Steps::addressed_of))]
+pub fn addressed<T: Copy>(book: u64, answer: Result<T, Refusal>) -> Result<T, Refusal>
+    ensures { result ≡ addressed_of book answer }
+{
+    match answer {
+        Err(Refusal::Register) => answer,
+        _ if lent::is_book(book) => answer,
+        _ => Err(Refusal::Place),
+    }
 }
 
 // The next book put back under its number; beside a refusal nothing is written.

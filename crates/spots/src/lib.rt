@@ -1,25 +1,26 @@
 // A place of a series of a field file, read.
 #![tactic(auto)]
 
-ghost use Rattle.std.specs.Prelude.{◌≡◌, [], ◌∷◌, ◌+◌, ◌≤◌, ◌<◌, length, drop};
-ghost use Rattle.rows.specs.Paste.{pasted};
+ghost use Rattle.std.specs.Prelude.{◌≡◌, ◌<◌, option_copied};
 ghost use Rattle.paper.specs.Procedure.{IN_SERIES};
 ghost use Rattle.decimals.specs.Reader.{fixed};
-ghost use Rattle.decimals.specs.Given.{Gives, Nothing};
+ghost use Rattle.decimals.specs.Given.{read_view, read_as, rest_of};
 ghost use Rattle.fieldfile.specs.Reader.{tag, spot};
-ghost use Rattle.spots.specs.Given.{Placed};
+ghost use Rattle.spots.specs.Given.{placed_words};
 
-use decimals::Read;
 use image::Layout;
 use procedure::Procedure;
 
 // The digit 1.
 const ONE: usize = b'1' as usize;
 
-// The set and the point of place k of a series.
-fn tag_at(s: &[u8], at: usize, k: usize) -> Read
-    requires { (at ≤ length s.now) × (k < IN_SERIES) }
-    ensures { Gives Nothing s.now at result (fixed (tag k) (drop at s.now)) }
+// The words of a place with no reading.
+const ABSENT: [u64; Layout::READING] = [0; Layout::READING];
+
+// What follows the set and the point of place k of a series.
+fn tag(s: &[u8], k: usize) -> Option<&[u8]>
+    requires { k < IN_SERIES }
+    ensures { option_copied result ≡ rest_of (fixed (tag k) s.now) }
 {
     let t = [
         (ONE + k / Procedure::POINTS) as u8,
@@ -27,34 +28,21 @@ fn tag_at(s: &[u8], at: usize, k: usize) -> Read
         (ONE + k % Procedure::POINTS) as u8,
         b' ',
     ];
-    lines::fixed_at(s, at, &t)
+    lines::fixed(s, &t)
 }
 
-// No reading from base on.
-fn clear(cells: &mut [u64], base: usize)
-    requires { base + 3 ≤ length cells.old }
-    ensures { cells.new ≡ pasted cells.old base (0 ∷ 0 ∷ 0 ∷ []) }
-{
-    cells[base] = 0;
-    cells[base + 1] = 0;
-    cells[base + 2] = 0;
-}
-
-// Place k of a series, where so many lines are left; the number that it gives is how many are left then.
-pub fn spot_at(s: &[u8], at: usize, k: usize, left: u64, cells: &mut [u64], base: usize) -> Read
-    requires { (at ≤ length s.now) × (k < IN_SERIES) × (base + 3 ≤ length cells.old) }
-    ensures { Gives (Placed cells.old base cells.new) s.now at result (spot k left (drop at s.now)) }
+// Place k of a series, where so many lines are left: its words, and how many lines are left then.
+#[tactic(auto, using(crate::proofs::Steps::placing), unfolding(fieldfile::specs::Reader::spot, fieldfile::specs::Reader::placed, decimals::specs::Reader::then))]
+pub fn spot(s: &[u8], k: usize, left: u64) -> Option<(([u64; Layout::READING], u64), &[u8])>
+    requires { k < IN_SERIES }
+    ensures { read_view result ≡ read_as placed_words (spot k left s.now) }
 {
     if left == 0 {
-        clear(cells, base);
-        return Read::At(0, at);
+        return Some(((ABSENT, 0), s));
     }
-    let Read::At(_, m) = tag_at(s, at, k) else {
-        clear(cells, base);
-        return Read::At(left, at);
+    let Some(rest) = tag(s, k) else {
+        return Some(((ABSENT, left), s));
     };
-    let Read::At(_, n) = lines::numbers_at(s, m, Layout::READING, cells, base) else {
-        return Read::Bad;
-    };
-    Read::At(left - 1, n)
+    let (words, rest) = lines::numbers(rest)?;
+    Some(((words, left - 1), rest))
 }

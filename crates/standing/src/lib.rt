@@ -1,7 +1,7 @@
 // What stands at the places, and what stood there before each kept change, as one test of words: the paper's test of what they mean.
 #![tactic(auto)]
 
-ghost use Rattle.std.specs.Prelude.{◌≡◌, ◌&&◌, ◌≤◌};
+ghost use Rattle.std.specs.Prelude.{◌≡◌, ◌&&◌, ◌≤◌, get_or};
 ghost use Rattle.paper.specs.Procedure.{KEPT};
 ghost use Rattle.paper.specs.Units.{all_near};
 ghost use Rattle.paper.specs.Form.{takeable};
@@ -17,13 +17,11 @@ use procedure::Procedure;
 fn change_ok(
     t: &[u64; Layout::TERMS],
     marks: &[u64; Procedure::PLACES],
-    place: u64,
-    x: u64,
-    y: u64,
-    h: u64,
+    change: &[u64; Layout::CHANGE],
 ) -> bool
-    ensures { result ≡ fits_marked (terms_of t.now) marks.now place x y h }
+    ensures { result ≡ fits_marked (terms_of t.now) marks.now (get_or change.now 0 0) (get_or change.now 1 0) (get_or change.now 2 0) (get_or change.now 3 0) }
 {
+    let [place, x, y, h] = *change;
     if place >= Procedure::PLACES as u64 {
         return false;
     }
@@ -46,22 +44,15 @@ pub fn all_stand(
     requires { kept ≤ KEPT }
     ensures { result ≡ (all_near (terms_of t.now) 0 (places_of cells.now) && takeable (terms_of t.now) (places_of cells.now) (entries kept changes.now)) }
 {
-    let n = kept as usize;
+    let (all, _) = changes.as_chunks::<{ Layout::CHANGE }>();
     let mut marks = [0u64; Procedure::PLACES];
     let near = places::survey(t, cells, &mut marks);
-    let mut j: usize = 0;
-    while j < n {
-        let i = j * Layout::CHANGE;
-        let p = changes[i];
-        let x = changes[i + 1];
-        let y = changes[i + 2];
-        let h = changes[i + 3];
-        if change_ok(t, &marks, p, x, y, h) {
-            marks[p as usize] = places::mark(places::all_zero(x, y, h));
-            j += 1;
-        } else {
+    for change in &all[..kept as usize] {
+        if !change_ok(t, &marks, change) {
             return false;
         }
+        let [place, x, y, h] = *change;
+        marks[place as usize] = places::mark(places::all_zero(x, y, h));
     }
     near
 }

@@ -37,9 +37,7 @@ pub fn in_form(register: &[u8], a: usize) -> bool
     requires { a + BOOK ≤ length register.now }
     ensures { result ≡ book_form (book_at register.now a) }
 {
-    // its words as they stand: `book::in_form` would have them copied
-    let b = load(register, a);
-    form::in_form(b.opened, &b.terms, &b.cells, b.kept, &b.changes)
+    book::in_form(&load(register, a))
 }
 
 // The bytes of w and of each word of from, in the place of those from the byte at on.

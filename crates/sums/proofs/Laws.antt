@@ -1,11 +1,7 @@
 -- Q and a residual from the sums that the code keeps, and how great Q can be.
 -- Assumes nothing.
-use Prim.Native.Nat.{ℕ, ◌+◌, ◌-◌, ◌*◌, ◌/◌, ◌≤◌, ◌<◌}
-use native.Mathlib.Omega.{arith}
-use native.Mathlib.Nat.{mul-le-mul}
-use mathlib.Core.Path.{◌≡◌, sym, ap, ◌∙◌, subst}
-use mathlib.Core.List.{List}
-use lib.IntN.{ℤ, pos, ◌-ℤ◌, sub_ℕ}
+use Rattle.std.proofs.Common.{ℕ, ◌+◌, ◌-◌, ◌*◌, ◌/◌, ◌≤◌, ◌<◌, arith, mul-le-mul, ◌≡◌, sym, ap, ◌∙◌, subst, List, ℤ, pos, ◌-ℤ◌}
+use Rattle.std.proofs.Math.IntN.{sub_ℕ}
 use Rattle.integers.specs.Nats.{two_sq}
 use Rattle.integers.specs.Sigma.{ΣN, ΣN-next, res, Σ_cong, res-raised}
 use Rattle.paper.specs.Procedure.{POINTS, ROUNDS, PLACES, NEARBY}
@@ -18,7 +14,16 @@ use Rattle.image.specs.Places.{places_of, axis_of}
 use Rattle.image.specs.Ready.{Ready}
 use Rattle.image.proofs.Ready.{raised-offset}
 use Rattle.sums.specs.declared.Totals.{Totals}
+use Rattle.sums.specs.declared.coordinate.Coordinate.{Coordinate}
+use Rattle.sums.specs.declared.coordinate.Coordinate.TheVariants.{X, Y, H}
+use Rattle.sums.specs.Coordinates.{index_of}
 use Rattle.sums.specs.Sums.{RAISED, raised_of, totals_of}
+
+-- a reading has three words
+pub index-small : (a : Coordinate) → index_of a < 3
+index-small X = omega arith
+index-small Y = omega arith
+index-small H = omega arith
 
 -- s (A − s) is at most a quarter of A²
 quarter : (s d : ℕ) → 4 * (s * d) ≤ (s + d) * (s + d)

@@ -1,4 +1,4 @@
-// The sums and the residuals of a full book in form, in whole numbers, from its words.
+// The sums and the residuals of a full book, in whole numbers, from its words.
 #![tactic(auto)]
 
 ghost use Rattle.std.specs.Prelude.{◌≡◌, ◌*◌, ◌≤◌, ◌<◌};
@@ -7,28 +7,26 @@ ghost use Rattle.paper.specs.Units.{place_at};
 ghost use Rattle.paper.specs.Figures.{Q, both, residual15};
 ghost use Rattle.image.specs.Lengths.{terms_of};
 ghost use Rattle.image.specs.Places.{places_of, axis_of};
-ghost use Rattle.image.specs.Ready.{Ready};
+ghost use Rattle.sums.specs.Coordinates.{index_of};
 ghost use Rattle.sums.specs.Sums.{RAISED, raised_of, Adds, totals_of, AllModest};
 
-use image::{Layout, Term};
+use image::{Full, Layout, Term};
 use procedure::{Procedure, Range};
+
+mod coordinate;
+
+pub use coordinate::Coordinate;
 
 // The words of a set: x, y, h of each point.
 const SET: usize = Procedure::POINTS * Layout::READING;
 
-// The offset of reading i of a point along an axis (0 x, 1 y, 2 h), raised by NEARBY so that it is not negative.
-fn raised(
-    terms: &[u64; Layout::TERMS],
-    cells: &[u64; Layout::CELLS],
-    point: usize,
-    axis: usize,
-    i: usize,
-) -> u64
-    requires { (1 ≤ point) × (point ≤ POINTS) × (axis < 3) × (i < ROUNDS) × Ready terms.now cells.now }
-    ensures { (result ≡ raised_of terms.now cells.now point axis i) × (result ≤ 2 * NEARBY) }
+// The offset of reading i of a point along an axis, raised by NEARBY so that it is not negative.
+fn raised(book: Full<'_>, point: usize, axis: Coordinate, i: usize) -> u64
+    requires { (1 ≤ point) × (point ≤ POINTS) × (i < ROUNDS) }
+    ensures { (result ≡ raised_of book.entry.terms.now book.entry.cells.now point (index_of axis) i) × (result ≤ 2 * NEARBY) }
 {
-    let from = (point - 1) * Layout::READING + axis;
-    cells[i * SET + from] + Range::NEARBY - terms[Term::X1 + from]
+    let from = (point - 1) * Layout::READING + axis.index();
+    book.cells[i * SET + from] + Range::NEARBY - book.terms[Term::X1 + from]
 }
 
 // The sum of raised offsets, and the sum of their squares.
@@ -39,19 +37,14 @@ struct Added {
 }
 
 // Both sums of the 15 raised offsets of a point and an axis.
-fn added_up(
-    terms: &[u64; Layout::TERMS],
-    cells: &[u64; Layout::CELLS],
-    point: usize,
-    axis: usize,
-) -> Added
-    requires { (1 ≤ point) × (point ≤ POINTS) × (axis < 3) × Ready terms.now cells.now }
-    ensures { Adds terms.now cells.now point axis result }
+fn added_up(book: Full<'_>, point: usize, axis: Coordinate) -> Added
+    requires { (1 ≤ point) × (point ≤ POINTS) }
+    ensures { Adds book.entry.terms.now book.entry.cells.now point (index_of axis) result }
 {
     let mut s: u64 = 0;
     let mut q: u64 = 0;
     for i in 0..Procedure::ROUNDS {
-        let u = raised(terms, cells, point, axis, i);
+        let u = raised(book, point, axis, i);
         s += u;
         q += u * u;
     }
@@ -59,42 +52,31 @@ fn added_up(
 }
 
 // Q of a point and an axis.
-fn q_of(
-    terms: &[u64; Layout::TERMS],
-    cells: &[u64; Layout::CELLS],
-    point: usize,
-    axis: usize,
-) -> u64
-    requires { (1 ≤ point) × (point ≤ POINTS) × (axis < 3) × Ready terms.now cells.now }
-    ensures { (result ≡ Q (terms_of terms.now) (places_of cells.now) (axis_of axis) point) × (4 * result ≤ RAISED * RAISED) }
+fn q_of(book: Full<'_>, point: usize, axis: Coordinate) -> u64
+    requires { (1 ≤ point) × (point ≤ POINTS) }
+    ensures { (result ≡ Q (terms_of book.entry.terms.now) (places_of book.entry.cells.now) (axis_of (index_of axis)) point) × (4 * result ≤ RAISED * RAISED) }
 {
-    let sums = added_up(terms, cells, point, axis);
+    let sums = added_up(book, point, axis);
     Procedure::ROUNDS as u64 * sums.q - sums.s * sums.s
 }
 
 // 15·r of the reading at a place, counted from 0 in sheet order, along an axis.
-pub fn residual(
-    terms: &[u64; Layout::TERMS],
-    cells: &[u64; Layout::CELLS],
-    place: usize,
-    axis: usize,
-) -> i64
-    requires { (place < PLACES) × (axis < 3) × Ready terms.now cells.now }
-    ensures { result ≡ residual15 (terms_of terms.now) (places_of cells.now) (place_at place) (axis_of axis) }
+pub fn residual(book: Full<'_>, place: usize, axis: Coordinate) -> i64
+    requires { place < PLACES }
+    ensures { result ≡ residual15 (terms_of book.entry.terms.now) (places_of book.entry.cells.now) (place_at place) (axis_of (index_of axis)) }
 {
     let point = place % Procedure::POINTS + 1;
-    let sums = added_up(terms, cells, point, axis);
-    let u = raised(terms, cells, point, axis, place / Procedure::POINTS);
+    let sums = added_up(book, point, axis);
+    let u = raised(book, point, axis, place / Procedure::POINTS);
     (sums.s as i64) - ((Procedure::ROUNDS as u64 * u) as i64)
 }
 
 // The sum of Q over both points.
-fn both(terms: &[u64; Layout::TERMS], cells: &[u64; Layout::CELLS], axis: usize) -> u64
-    requires { (axis < 3) × Ready terms.now cells.now }
-    ensures { (result ≡ both (terms_of terms.now) (places_of cells.now) (axis_of axis)) × (result ≤ 4500000000000) }
+fn both(book: Full<'_>, axis: Coordinate) -> u64
+    ensures { (result ≡ both (terms_of book.entry.terms.now) (places_of book.entry.cells.now) (axis_of (index_of axis))) × (result ≤ 4500000000000) }
 {
-    let first = q_of(terms, cells, 1, axis);
-    let second = q_of(terms, cells, 2, axis);
+    let first = q_of(book, 1, axis);
+    let second = q_of(book, 2, axis);
     first + second
 }
 
@@ -108,13 +90,12 @@ pub struct Totals {
 }
 
 // The four sums of a book.
-pub fn sums(terms: &[u64; Layout::TERMS], cells: &[u64; Layout::CELLS]) -> Totals
-    requires { Ready terms.now cells.now }
-    ensures { (result ≡ totals_of (terms_of terms.now) (places_of cells.now)) × AllModest result }
+pub fn sums(book: Full<'_>) -> Totals
+    ensures { (result ≡ totals_of (terms_of book.entry.terms.now) (places_of book.entry.cells.now)) × AllModest result }
 {
-    let x = both(terms, cells, 0);
-    let y = both(terms, cells, 1);
-    let h = both(terms, cells, 2);
+    let x = both(book, Coordinate::X);
+    let y = both(book, Coordinate::Y);
+    let h = both(book, Coordinate::H);
     let xy = x + y;
     Totals {
         qx: x,

@@ -1,12 +1,11 @@
 // The table of contents of a field file, read.
 #![tactic(auto)]
 
-ghost use Rattle.std.specs.Prelude.{◌≤◌, length, drop};
-ghost use Rattle.decimals.specs.Given.{Gives};
+ghost use Rattle.std.specs.Prelude.{◌≡◌};
+ghost use Rattle.decimals.specs.Given.{read_view, read_as};
 ghost use Rattle.fieldfile.specs.Reader.{count, table};
-ghost use Rattle.table.specs.Given.{Count, Tabled};
+ghost use Rattle.table.specs.Given.{three_counts};
 
-use decimals::Read;
 use image::ORIGIN;
 use procedure::Procedure;
 
@@ -24,51 +23,28 @@ const SERIES2: [u8; 8] = *b"SERIES2 ";
 
 const SERIES3: [u8; 8] = *b"SERIES3 ";
 
-// The three counts of the table of contents, and the place after it.
-#[derive(Clone, Copy)]
-pub enum Counts {
-    Of(u64, u64, u64, usize),
-    Bad,
-}
-
 // A line of the table of contents: the name of a body, and how many lines it has.
-fn count_at(s: &[u8], at: usize, name: &[u8]) -> Read
-    requires { at ≤ length s.now }
-    ensures { Gives Count s.now at result (count name.now (drop at s.now)) }
+#[tactic(auto, using(crate::proofs::Steps::counting), unfolding(fieldfile::specs::Reader::count, decimals::specs::Reader::then))]
+fn count<'a>(s: &'a [u8], name: &[u8]) -> Option<(u64, &'a [u8])>
+    ensures { read_view result ≡ read_as (λ n. n) (count name.now s.now) }
 {
-    let Read::At(_, n) = lines::fixed_at(s, at, name) else {
-        return Read::Bad;
-    };
-    let Read::At(z, next) = lines::field_at(s, n, b'\n') else {
-        return Read::Bad;
-    };
-    if z < ORIGIN {
-        return Read::Bad;
+    let rest = lines::fixed(s, name)?;
+    let (word, rest) = lines::field(rest, b'\n')?;
+    if !(ORIGIN..=MOST).contains(&word) {
+        return None;
     }
-    if MOST < z {
-        return Read::Bad;
-    }
-    Read::At(z - ORIGIN, next)
+    Some((word - ORIGIN, rest))
 }
 
-// The table of contents.
-pub fn table_at(s: &[u8]) -> Counts
-    ensures { Tabled s.now result (table s.now) }
+// The table of contents: how many lines the body of each series has.
+#[tactic(auto, using(decimals::proofs::Steps::reading), unfolding(fieldfile::specs::Reader::table, decimals::specs::Reader::then, decimals::specs::Ascii::ascii))]
+pub fn table(s: &[u8]) -> Option<([u64; Procedure::SERIES], &[u8])>
+    ensures { read_view result ≡ read_as three_counts (table s.now) }
 {
-    let Read::At(_, i) = lines::fixed_at(s, 0, &CONTENTS) else {
-        return Counts::Bad;
-    };
-    let Read::At(_, j) = lines::fixed_at(s, i, &TERMS) else {
-        return Counts::Bad;
-    };
-    let Read::At(a, k) = count_at(s, j, &SERIES1) else {
-        return Counts::Bad;
-    };
-    let Read::At(b, m) = count_at(s, k, &SERIES2) else {
-        return Counts::Bad;
-    };
-    let Read::At(c, n) = count_at(s, m, &SERIES3) else {
-        return Counts::Bad;
-    };
-    Counts::Of(a, b, c, n)
+    let rest = lines::fixed(s, &CONTENTS)?;
+    let rest = lines::fixed(rest, &TERMS)?;
+    let (a, rest) = count(rest, &SERIES1)?;
+    let (b, rest) = count(rest, &SERIES2)?;
+    let (c, rest) = count(rest, &SERIES3)?;
+    Some(([a, b, c], rest))
 }

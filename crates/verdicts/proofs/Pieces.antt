@@ -1,9 +1,6 @@
 -- How long the text of two verdicts is.
 -- Assumes nothing.
-use Prim.Native.Nat.{◌≤◌}
-use native.Mathlib.Omega.{arith}
-use mathlib.Core.Path.{refl}
-use lib.ListN.{length, length-append}
+use Rattle.std.proofs.Common.{◌≤◌, refl, length, length-append, arith}
 use Rattle.paper.specs.Verdicts.{both_within}
 use Rattle.paper.specs.declared.Judged.{Judged}
 use Rattle.decimals.specs.Ascii.{ascii}

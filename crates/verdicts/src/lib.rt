@@ -1,19 +1,19 @@
 // What the program prints of two verdicts.
 #![tactic(auto)]
 
-ghost use Rattle.std.specs.Prelude.{◌≤◌, length};
-ghost use Rattle.printing.specs.Given.{Put};
-ghost use Rattle.axes.specs.Given.{FitsAxis};
+ghost use Rattle.std.specs.Prelude.{◌≡◌, ◌++◌, ◌+◌, ◌≤◌, length};
+ghost use Rattle.arrayvec.specs.ArrayVec.{array_vec_len};
 ghost use Rattle.verdicts.specs.Text.{verdict_text};
 
+use arrayvec::ArrayVec;
 use paper::Judged;
 
 // Both lines, and PASS or FAIL.
-pub fn put_verdicts(out: &mut [u8], xy: Judged, h: Judged) -> usize
-    requires { FitsAxis xy × FitsAxis h × (length (verdict_text xy h) ≤ length out.old) }
-    ensures { Put out.old 0 (verdict_text xy h) out.new result }
+pub fn put_verdicts<const N: usize>(out: &mut ArrayVec<u8, N>, xy: Judged, h: Judged)
+    requires { array_vec_len out.old + length (verdict_text xy h) ≤ N }
+    ensures { out.new.items ≡ out.old.items ++ verdict_text xy h }
 {
-    let i = axes::put_axis(out, 0, b"XY ", xy);
-    let j = axes::put_axis(out, i, b"H ", h);
-    printing::put_either(out, j, xy.within & h.within, b"PASS\n", b"FAIL\n")
+    axes::put_axis(out, b"XY ", xy);
+    axes::put_axis(out, b"H ", h);
+    printing::put_either(out, xy.within & h.within, b"PASS\n", b"FAIL\n");
 }

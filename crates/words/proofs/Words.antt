@@ -3,15 +3,16 @@
 use mathlib.Core.Path.{◌≡◌, refl, sym, ap, ◌∙◌, subst}
 use mathlib.Core.List.{List, [], ◌∷◌, ◌++◌, append-nil}
 use Prim.Native.Nat.{ℕ, zero, suc, ◌+◌, ◌*◌, ◌/◌, ◌%◌, ◌^◌, ◌≤◌, ◌<◌}
-use native.Mathlib.Numerals.{add-one, unary_clauses}
+use native.Mathlib.Numerals.{add-one}
 use native.Mathlib.Omega.{arith}
-use native.Mathlib.Nat.{mul-zero, add-zero, suc-add, zero-add, mul_assoc, pow-succ', div-one, div-div-eq-div-mul}
+use native.Mathlib.Nat.{suc-add, zero-add, mul_assoc, pow-suc, pow-succ', div-one, div-div-eq-div-mul}
 use lib.ListN.{set, length, take, drop, get_or, length-drop}
-use lib.Seq.{set_at, append_snoc, drop-cons, drop-drop, length-take-le, take_at, take-suc}
+use lib.Seq.{set_at, append_snoc, drop-cons, drop-drop, length-take-le, take_all, take_at, take-suc}
+use Rattle.std.specs.Int.{w64, byte_at, byte_worth, bytes_low_first, sum_through, to_le_bytes, from_le_bytes}
 use Rattle.rows.specs.Blocks.{blocks, laid}
-use Rattle.words.specs.Words.{le, four_at, digits, word_in, words, bytes_of}
+use Rattle.words.specs.Words.{le, digits, word_in, words, bytes_of}
 use Rattle.rows.specs.Paste.{pasted}
-use Rattle.rows.proofs.Paste.{pasted-then, stores_pasted}
+use Rattle.rows.proofs.Paste.{pasted-then}
 use Rattle.rows.proofs.Sizes.{Bytes, Small, bytes_drop, bytes_take}
 use Rattle.rows.proofs.Blocks.{length-blocks, blocks-add, blocks-laid, laid-blocks, length-laid, laid-append}
 
@@ -49,11 +50,6 @@ le_parts (suc n) m (b ∷ l) h =
     let e : 256 ^ suc n * r ≡ 256 * (256 ^ n * r) = rw (pow-succ' 256 n, mul_assoc) in
     rw (suc-add, e, le_parts n m l (omega arith)) (omega arith)
 
-pub digits-parts : (n m w : ℕ) → digits (n + m) w ≡ digits n w ++ digits m (w / 256 ^ n)
-unfolding digits
-digits-parts zero m w = let e : 256 ^ 0 ≡ 1 = refl in rw (zero-add, e, div-one)
-digits-parts (suc n) m w = rw (suc-add, digits-parts n m (w / 256), pow-succ' 256 n, div-div-eq-div-mul)
-
 -- ---- words
 
 pub length-bytes_of : (ws : List ℕ) → length (bytes_of ws) ≡ 8 * length ws
@@ -76,43 +72,32 @@ word_front w z h = rw (take_at (digits 8 w) z 8 (length_digits 8 w)) (le-digits 
 pub words_front : (ws z : List ℕ) → Small ws → words (length ws) (bytes_of ws ++ z) ≡ ws
 words_front ws z h = blocks-laid 8 (digits 8) 0 word_in ws z (λ i. length_digits 8 (get_or ws i 0)) (λ i l. word_front (get_or ws i 0) l (h i))
 
--- ---- a word in halves
+-- ---- a word as std reads and writes it
 
-sucs : (bs : List ℕ) (at : ℕ)
-    → le (get_or bs at 0 ∷ get_or bs (suc at) 0 ∷ get_or bs (suc (suc at)) 0 ∷ get_or bs (suc (suc (suc at))) 0 ∷ [])
-    ≡ four_at bs at
+bytes_worth : (k : ℕ) (bs : List ℕ) → k < length bs → le (take (suc k) bs) ≡ sum_through (λ i. byte_worth i (get_or bs i 0)) k
 unfolding le
-sucs bs at = simp (unary_clauses, mul-zero, add-zero)
+bytes_worth zero [] h = absurd (omega arith)
+bytes_worth zero (b ∷ bs) h = omega arith
+bytes_worth (suc k) bs h =
+    let e : suc (suc k) ≡ suc k + 1 = omega arith in
+    rw (e, le_parts (suc k) 1 bs (omega arith), bytes_worth k bs (omega arith), drop-cons bs (suc k) 0 h) (omega arith)
 
--- the first four bytes from at are those that the sum names
-le_four : (bs : List ℕ) (at : ℕ) → at + 4 ≤ length bs → le (take 4 (drop at bs)) ≡ four_at bs at
-unfolding le
-le_four bs at h =
-    rw (
-      drop-cons bs at 0 (omega arith),
-      drop-cons bs (suc at) 0 (omega arith),
-      drop-cons bs (suc (suc at)) 0 (omega arith),
-      drop-cons bs (suc (suc (suc at))) 0 (omega arith),
-    )
-    (sucs bs at)
+pub le-read : (bs : List ℕ) → length bs ≡ 8 → from_le_bytes w64 bs ≡ le bs
+le-read bs e = sym (bytes_worth 7 bs (omega arith)) ∙ ap le (take_all 8 bs (omega arith))
 
--- a word from its halves
-pub le_halves : (bs : List ℕ) (at : ℕ) → at + 8 ≤ length bs → le (take 8 (drop at bs)) ≡ four_at bs at + 4294967296 * four_at bs (at + 4)
-le_halves bs at h =
-    rw (← le_four bs at (omega arith), ← le_four bs (at + 4) (omega arith), ← drop-drop 4 at bs)
-    (le_parts 4 4 (drop at bs) (simp length-drop (omega arith)))
+byte_digit : (i w : ℕ) → byte_at i w ≡ w / 256 ^ i % 256
+byte_digit zero w = let e : 256 ^ 0 ≡ 1 = refl in rw (e, div-one)
+byte_digit (suc i) w = refl
 
-pub halves_pasted : (l : List ℕ) (at w : ℕ) → at + 8 ≤ length l
-    → pasted (pasted l at (digits 4 w)) (at + 4) (digits 4 (w / 4294967296)) ≡ pasted l at (digits 8 w)
-halves_pasted l at w h =
-    pasted-then l at (digits 4 w) (at + 4) (digits 4 (w / 4294967296)) (rw length_digits) (rw length_digits (omega arith))
-    ∙ ap (pasted l at) (sym (digits-parts 4 4 w))
-
-pub four_pasted : (l : List ℕ) (at w : ℕ) → at + 4 ≤ length l
-    → set (set (set (set l at (w % 256)) (at + 1) (w / 256 % 256)) (at + 2) (w / 256 / 256 % 256)) (at + 3) (w / 256 / 256 / 256 % 256)
-    ≡ pasted l at (digits 4 w)
+bytes_digits : (k i w : ℕ) → bytes_low_first i k w ≡ digits k (w / 256 ^ i)
 unfolding digits
-four_pasted l at w h = simp unary_clauses (stores_pasted (digits 4 w) l at h)
+bytes_digits zero i w = refl
+bytes_digits (suc k) i w =
+    let e : w / 256 ^ suc i ≡ w / 256 ^ i / 256 = ap (λ (p : ℕ). w / p) (pow-suc 256 i) ∙ sym (div-div-eq-div-mul w (256 ^ i) 256) in
+    rw (byte_digit i w, bytes_digits k (suc i) w, e)
+
+pub digits-written : (w : ℕ) → to_le_bytes w64 w ≡ digits 8 w
+digits-written w = bytes_digits 8 0 w ∙ ap (digits 8) (let e : 256 ^ 0 ≡ 1 = refl in rw (e, div-one))
 
 -- ---- a turn of each loop
 

@@ -1,14 +1,12 @@
--- `asks::rtk_changes`: the book found and asked; the refusal is turned by its number.
+-- `asks::rtk_changes`: the book found and asked; the answer is turned by its number.
 -- Assumes nothing.
-use mathlib.Core.Path.{ap, ◌∙◌}
+use Rattle.std.proofs.Common.{ap, ◌∙◌}
 use Rattle.paper.specs.Calls.{changes}
+use Rattle.paper.specs.Answers.{count, beside}
 use Rattle.readings.specs.Answers.{count_of}
-use Rattle.readings.proofs.Asks.{count-turned}
-use Rattle.shelving.specs.Steps.{turned_away}
-use Rattle.shelf.proofs.Asked.{turned, asked, counts}
+use Rattle.shelf.proofs.Asked.{asked-told, counts}
 use Rattle.asks.proofs.rtk_changes.Goals as goal
 
 pub returns : goal.returns
-unfolding turned
-returns c = count-turned _ (turned_away _) _ _ c.changes-changes.ensures c.turned_away.ensures
-    ∙ ap count_of (asked _ _ changes counts _ c.found.ensures)
+unfolding beside
+returns c = c.from.ensures ∙ ap count_of (rw c.addressed.ensures (asked-told _ _ changes counts _ c.found-b.ensures count _ c.changes-changes.ensures))

@@ -1,25 +1,37 @@
 -- `axes::put_axis`: three pieces, one after another.
 -- Assumes nothing.
-use borrow.Author.Rules.{rules}
-use mathlib.Core.Path.{◌∙◌}
+use Rattle.std.proofs.Common.{[], ◌∷◌, ◌++◌, cond, pos, rules}
 use Rattle.decimals.specs.Ascii.{ascii}
-use Rattle.axes.specs.Text.{axis_line}
-use Rattle.axes.proofs.Pieces.{first_fits, second_fits, two-fit, third_fits, all_three}
+use Rattle.decimals.specs.Numbers.{line}
+use Rattle.printing.proofs.Numbers.{number_of}
+use Rattle.printing.proofs.Pieces.{room_first, room_second, both}
+use Rattle.axes.specs.Text.{WITHIN, BEYOND, axis_line}
 use Rattle.axes.proofs.put_axis.Goals as goal
 
-pub put_fixed-i-requires : goal.put_fixed-i-requires
+pub put_fixed-requires : goal.put_fixed-requires
 unfolding axis_line ascii
-put_fixed-i-requires c = search (first_fits, two-fit, rules)
+put_fixed-requires g c = let j = c.args.axis in
+    let word = cond j.within WITHIN BEYOND in
+    (search rules, room_first _ c.args.name.now word _ (room_first _ (c.args.name.now ++ word) (line (pos j.m ∷ pos j.b ∷ [])) _ c.requires))
 
-pub put_either-j-requires : goal.put_either-j-requires
+pub put_either-requires : goal.put_either-requires
 unfolding axis_line ascii
-put_either-j-requires c = search (second_fits, two-fit, rules)
+put_either-requires g c = let j = c.args.axis in
+    let word = cond j.within WITHIN BEYOND in
+    (search rules, room_second _ c.args.name.now word _ (room_first _ (c.args.name.now ++ word) (line (pos j.m ∷ pos j.b ∷ [])) _ c.requires) _ c.put_fixed.ensures)
 
-pub put_figures-requires : goal.put_figures-requires
+pub put_numbers-requires : goal.put_numbers-requires
 unfolding axis_line ascii
-put_figures-requires c = let p = c.requires in
-    (p.0.0, p.0.1, third_fits _ _ _ _ _ p.1 c.put_fixed-i.ensures c.put_either-j.ensures (c.put_either-j.auto.out ∙ c.put_fixed-i.auto.out))
+put_numbers-requires g c = let j = c.args.axis in
+    let word = cond j.within WITHIN BEYOND in
+    let figures = line (pos j.m ∷ pos j.b ∷ []) in
+    let mid = both _ c.args.name.now word _ (room_first _ (c.args.name.now ++ word) figures _ c.requires) _ c.put_fixed.ensures _ c.put_either.ensures in
+    (search rules, rw (number_of c.from.result j.m (search rules) c.from.ensures, number_of c.from-2.result j.b (search rules) c.from-2.ensures) (room_second _ (c.args.name.now ++ word) figures _ c.requires _ mid))
 
 pub returns : goal.returns
 unfolding axis_line ascii
-returns c = all_three _ _ _ _ _ c.requires.1 c.put_fixed-i.ensures c.put_either-j.ensures c.put_figures.ensures
+returns g c = let j = c.args.axis in
+    let word = cond j.within WITHIN BEYOND in
+    let figures = line (pos j.m ∷ pos j.b ∷ []) in
+    let mid = both _ c.args.name.now word _ (room_first _ (c.args.name.now ++ word) figures _ c.requires) _ c.put_fixed.ensures _ c.put_either.ensures in
+    both _ (c.args.name.now ++ word) figures _ c.requires _ mid _ (rw (number_of c.from.result j.m (search rules) c.from.ensures, number_of c.from-2.result j.b (search rules) c.from-2.ensures) at c.put_numbers.ensures)

@@ -11,4 +11,4 @@ use Rattle.changes.proofs.pop.Goals as goal
 pub returns : goal.returns
 unfolding popped
 returns c = let l : length (drop 4 c.args.old) ≤ (CHANGE_WORDS - 4) = simp length-drop (omega (arith, c)) in
-    simp (c.copy.ensures, take_all (CHANGE_WORDS - 4) (drop 4 c.args.old) l)
+    simp (c.copy_from_slice.ensures.after, take_all (CHANGE_WORDS - 4) (drop 4 c.args.old) l)

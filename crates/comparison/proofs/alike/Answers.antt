@@ -1,6 +1,5 @@
 -- `comparison::alike` meets its contract. Assumes nothing.
-use native.Mathlib.Omega.{arith}
-use native.Mathlib.Nat.{mul-le-mul}
+use Rattle.std.proofs.Common.{arith, mul-le-mul}
 use Rattle.comparison.proofs.alike.Goals as goal
 
 pub overflow_mul-least : goal.overflow_mul-least

@@ -1,11 +1,12 @@
 -- `comparison::by_sums` meets its contract. Assumes nothing.
-use mathlib.Core.Path.{◌∙◌}
-use borrow.Author.Rules.{rules}
-use Rattle.comparison.proofs.Comparing.{sums_zero, sums_same}
+use Rattle.std.proofs.Common.{rules, eq-eqb, ne_eqb}
+use Rattle.comparison.specs.Comparing.{by_sums}
 use Rattle.comparison.proofs.by_sums.Goals as goal
 
 pub returns-then-second-eq0 : goal.returns-then-second-eq0
-returns-then-second-eq0 c = c.not_compared.ensures ∙ sums_zero _ _ _ (search rules)
+unfolding by_sums
+returns-then-second-eq0 c = rw (eq-eqb c.args.second 0 (search rules))
 
 pub returns : goal.returns
-returns c = sums_same _ _ _ _ (search rules) c.same_population-same.ensures
+unfolding by_sums
+returns c = rw (ne_eqb c.args.second 0 (search rules), c.same_population.ensures)

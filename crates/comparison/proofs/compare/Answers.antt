@@ -1,22 +1,35 @@
 -- `comparison::compare` meets its contract. Assumes nothing.
-use mathlib.Core.Path.{◌∙◌}
-use Rattle.paper.proofs.Tests.{known}
-use Rattle.places.proofs.Meets.{ready}
-use Rattle.comparison.proofs.Comparing.{short-first, short_second, both-full}
+use Rattle.std.proofs.Common.{ap, ◌∙◌}
+use Rattle.std.proofs.lemmas.Result.{err_from_is_err_and}
+use Rattle.procedure.proofs.Told.{handed_on}
+use Rattle.comparison.specs.Comparing.{comparison_told}
+use Rattle.comparison.proofs.Comparing.{short-first, short_second, suspect-first, suspect_second, by_sums_lem}
 use Rattle.comparison.proofs.compare.Goals as goal
 
-pub returns-then-any_empty : goal.returns-then-any_empty
-returns-then-any_empty c = let p = c.requires in
-    c.not_compared.ensures ∙ short-first _ _ _ _ _ p.0.0 p.0.1 (known c.any_empty.ensures c.if-any_empty.true)
+pub returns-in_err-one : goal.returns-in_err-one
+returns-in_err-one c = let h = c.in_err-one.ensures in
+    let p = err_from_is_err_and c.from_residual.result c.from_residual.ensures.1 in
+    let empty = rw h.ok_part at c.full.ensures in
+    ap comparison_told (handed_on _ _ _ _ _ h.ok_part h.value p.2 p.1) ∙ short-first _ _ _ _ _ empty
 
-pub returns-then-any_empty-2 : goal.returns-then-any_empty-2
-returns-then-any_empty-2 c = let p = c.requires in
-    c.not_compared-then-any_empty-2.ensures ∙ short_second _ _ _ _ _ p.0.0 p.0.1 (known c.any_empty.ensures c.if-any_empty.false) (known c.any_empty-2.ensures c.if-any_empty-2.true)
+pub returns-in_err-other : goal.returns-in_err-other
+returns-in_err-other c = let h = c.in_err-other.ensures in
+    let p = err_from_is_err_and c.from_residual-in_err-other.result c.from_residual-in_err-other.ensures.1 in
+    let e = rw c.in_ok-one.ensures.ok_part at c.full.ensures in
+    let empty = rw h.ok_part at c.full-2.ensures in
+    ap comparison_told (handed_on _ _ _ _ _ h.ok_part h.value p.2 p.1) ∙ rw (← e.1, ← e.2) (short_second _ _ _ _ _ e.0 empty)
 
-pub both_screened-requires : goal.both_screened-requires
-both_screened-requires c = let p = c.requires in
-    (ready _ _ p.1.0 p.1.1 (known c.any_empty.ensures c.if-any_empty.false), ready _ _ p.2.0 p.2.1 (known c.any_empty-2.ensures c.if-any_empty-2.false))
+pub returns-in-Some : goal.returns-in-Some
+returns-in-Some c = let e = rw c.in_ok-one.ensures.ok_part at c.full.ensures in
+    let f = rw c.in_ok-other.ensures.ok_part at c.full-2.ensures in
+    rw (← e.1, ← e.2, ← f.1, ← f.2) (suspect-first _ _ _ _ _ e.0 f.0 _ c.in-Some.ensures)
 
-pub returns : goal.returns
-returns c = let p = c.requires in
-    c.both_screened.ensures ∙ both-full _ _ _ _ _ p.0.0 p.0.1 (known c.any_empty.ensures c.if-any_empty.false) (known c.any_empty-2.ensures c.if-any_empty-2.false)
+pub returns-in-Some-first_suspect : goal.returns-in-Some-first_suspect
+returns-in-Some-first_suspect c = let e = rw c.in_ok-one.ensures.ok_part at c.full.ensures in
+    let f = rw c.in_ok-other.ensures.ok_part at c.full-2.ensures in
+    rw (← e.1, ← e.2, ← f.1, ← f.2) (suspect_second _ _ _ _ _ e.0 f.0 c.in_default.ensures _ c.in-Some-first_suspect.ensures)
+
+pub returns-in-None : goal.returns-in-None
+returns-in-None c = let e = rw c.in_ok-one.ensures.ok_part at c.full.ensures in
+    let f = rw c.in_ok-other.ensures.ok_part at c.full-2.ensures in
+    rw (← e.1, ← e.2, ← f.1, ← f.2, c.by_sums.ensures, c.total.ensures.0, c.total-in-None.ensures.0) (by_sums_lem _ _ _ _ _ e.0 f.0 c.in_default.ensures c.in-None.ensures)

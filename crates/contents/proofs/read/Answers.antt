@@ -1,15 +1,11 @@
--- `contents::read`: too long, of the form, or not.
+-- `contents::read`: of the form exactly if nothing is left.
 -- Assumes nothing.
-use Rattle.fieldfile.proofs.Agreement.{read_long, read_bad}
-use Rattle.contents.proofs.Steps.{holds-none, holds_some}
-use borrow.Author.Rules.{rules}
+use Rattle.std.proofs.Common.{rules}
+use Rattle.contents.proofs.Steps.{file_end, file_more}
 use Rattle.contents.proofs.read.Goals as goal
 
-pub returns-then-file-gt-LONGEST : goal.returns-then-file-gt-LONGEST
-returns-then-file-gt-LONGEST c = search (read_long, holds-none, rules)
-
-pub returns-then-formed : goal.returns-then-formed
-returns-then-formed c = search (holds_some, rules)
-
-pub returns-else-formed : goal.returns-else-formed
-returns-else-formed c = let bs = c.args.file.now in holds-none bs (read_bad bs c.if-file-gt-LONGEST.false (c.formed.ensures.fail c.if-formed.false))
+pub returns : goal.returns
+returns c =
+    let end = file_end _ _ _ _ _ _ c.if-file-gt-LONGEST.false c.in_ok-counts.ensures c.in_ok-terms.ensures _ c.in_ok-cells.ensures in
+    let more = file_more _ _ _ _ _ _ c.if-file-gt-LONGEST.false c.in_ok-counts.ensures c.in_ok-terms.ensures _ c.in_ok-cells.ensures in
+    search rules

@@ -1,7 +1,7 @@
--- `doubles::in_millimetres` meets its contract. Assumes nothing.
-use borrow.Author.Rules.{rules}
-use Rattle.doubles.proofs.Laws.{doubled_is}
+-- `doubles::in_millimetres`: each part by itself. Assumes nothing.
+use Rattle.doubles.specs.Doubles.{doubled}
 use Rattle.doubles.proofs.in_millimetres.Goals as goal
 
 pub returns : goal.returns
-returns c = search (doubled_is, rules)
+unfolding doubled
+returns c = simp (c.sheet_of.ensures, c.verdict.ensures, c.verdict-2.ensures)

@@ -1,14 +1,14 @@
 -- `figures::both_within` meets its contract. Assumes nothing.
-use native.Mathlib.Omega.{arith}
+use Rattle.std.proofs.Common.{arith}
 use Rattle.image.specs.Lengths.{terms_of}
 use Rattle.figures.proofs.Judging.{both_is}
 use Rattle.figures.proofs.both_within.Goals as goal
 
 pub within_by-requires : goal.within_by-requires
-within_by-requires c = (omega arith, omega arith, c.sums-s.ensures.1.p, c.requires.scales 4 (omega arith) (omega arith))
+within_by-requires c = (c.sums-s.ensures.1.p, c.args.book.ready.scales 4 (omega arith) (omega arith))
 
 pub within_by-requires-2 : goal.within_by-requires-2
-within_by-requires-2 c = (omega arith, omega arith, c.sums-s.ensures.1.qh, c.requires.scales 5 (omega arith) (omega arith))
+within_by-requires-2 c = (c.sums-s.ensures.1.qh, c.args.book.ready.scales 5 (omega arith) (omega arith))
 
 pub returns : goal.returns
 unfolding terms_of

@@ -1,5 +1,5 @@
 -- `figures::evaluate` meets its contract. Assumes nothing.
-use native.Mathlib.Omega.{arith}
+use Rattle.std.proofs.Common.{arith}
 use Rattle.image.specs.Lengths.{terms_of}
 use Rattle.figures.proofs.Judging.{shown-xy, shown-h, evaluation_is}
 use Rattle.figures.proofs.evaluate.Goals as goal
@@ -7,11 +7,11 @@ use Rattle.figures.proofs.evaluate.Goals as goal
 pub judged_by-xy-requires : goal.judged_by-xy-requires
 judged_by-xy-requires c = let s = c.sums-s in
     let f = c.shown_of-sheet in
-    (omega arith, omega arith, omega arith, omega arith, s.ensures.1.p, shown-xy _ _ f.ensures.0, f.ensures.1.sxy, c.requires.scales 4 (omega arith) (omega arith))
+    (s.ensures.1.p, shown-xy _ _ f.ensures.0, f.ensures.1.sxy, c.args.book.ready.scales 4 (omega arith) (omega arith))
 
 pub judged_by-h-requires : goal.judged_by-h-requires
 judged_by-h-requires c = let f = c.shown_of-sheet in
-    (omega arith, omega arith, omega arith, omega arith, c.sums-s.ensures.1.qh, shown-h _ _ f.ensures.0, f.ensures.1.sh, c.requires.scales 5 (omega arith) (omega arith))
+    (c.sums-s.ensures.1.qh, shown-h _ _ f.ensures.0, f.ensures.1.sh, c.args.book.ready.scales 5 (omega arith) (omega arith))
 
 pub returns : goal.returns
 unfolding terms_of

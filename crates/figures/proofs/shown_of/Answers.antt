@@ -1,5 +1,5 @@
 -- `figures::shown_of` meets its contract. Assumes nothing.
-use borrow.Author.Rules.{rules}
+use Rattle.std.proofs.Common.{rules}
 use Rattle.figures.proofs.Judging.{shown_are}
 use Rattle.figures.proofs.shown_of.Goals as goal
 

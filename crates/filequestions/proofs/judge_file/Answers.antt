@@ -1,11 +1,13 @@
 -- `filequestions::judge_file`: by whether the file is refused.
 -- Assumes nothing.
-use mathlib.Core.Path.{◌∙◌}
+use Rattle.std.proofs.Common.{◌∙◌}
+use Rattle.std.proofs.lemmas.Result.{err_from_is_err_and}
 use Rattle.filequestions.proofs.Ways.{file_refused, file_judged}
 use Rattle.filequestions.proofs.judge_file.Goals as goal
 
-pub returns-then-refusal-ne0 : goal.returns-then-refusal-ne0
-returns-then-refusal-ne0 c = (c.not_judged.ensures.0 ∙ file_refused _ _ c.read_book-s.ensures c.if-refusal-ne0.true, c.not_judged.ensures.1)
+pub returns-in_err-book-clause-answer : goal.returns-in_err-book-clause-answer
+returns-in_err-book-clause-answer c = let p = err_from_is_err_and c.from_residual.result c.from_residual.ensures.1 in
+    rw (p.1, p.2) (file_refused _ _ c.in_err-book.ensures)
 
-pub returns : goal.returns
-returns c = (c.judge.ensures.0 ∙ file_judged _ _ c.read_book-s.ensures c.if-refusal-ne0.false, c.judge.ensures.1)
+pub returns-clause-answer : goal.returns-clause-answer
+returns-clause-answer c = c.judge.ensures.answer ∙ file_judged _ _ c.in_ok-book.ensures

@@ -10,16 +10,16 @@ loop-turn-init g c = (omega arith, came_none _ _)
 pub loop-turn-preserved : goal.loop-turn-preserved
 loop-turn-preserved g c =
     let from = c.next_place-from.result in
-    let fits : from + c.in-Bytes.n ≤ length c.loop-turn.buffer = c.in-Bytes.ensures.within in
-    let len : c.held-len.result ≡ max c.loop-turn.len (from + c.in-Bytes.n) = omega arith in
-    let came = came_more c.loop-turn.buffer c.read_once.new.buffer c.loop-turn.len from c.read_once.auto.buffer c.next_place-from.ensures.behind c.in-Bytes.ensures.front
-    _ _ _ c.in-Bytes.n c.loop-turn._turn fits (omega arith) c.in-Bytes.ensures.brings c.loop-turn.invariant.1 in
+    let fits : from + c.in_ok-n.n ≤ length c.loop-turn.buffer = c.in_ok-n.ensures.within in
+    let len : c.max-len.result ≡ max c.loop-turn.len (from + c.in_ok-n.n) = omega arith in
+    let came = came_more c.loop-turn.buffer c.read_once.new.buffer c.loop-turn.len from c.read_once.auto.buffer c.next_place-from.ensures.behind c.in_ok-n.ensures.front
+    _ _ _ c.in_ok-n.n c.loop-turn._turn fits (omega arith) c.in_ok-n.ensures.brings c.loop-turn.invariant.1 in
     (omega arith, rw len came)
 
 pub returns-then-n-eq0-clause-holds : goal.returns-then-n-eq0-clause-holds
 returns-then-n-eq0-clause-holds g c =
     holds_at_end c.loop-turn.buffer c.read_once.new.buffer c.loop-turn.len c.next_place-from.result c.read_once.auto.buffer c.next_place-from.ensures.behind
-    c.in-Bytes.ensures.front _ _ _ c.in-Bytes.n c.loop-turn._turn c.next_place-from.ensures.bound c.if-n-eq0.true c.in-Bytes.ensures.brings
+    c.in_ok-n.ensures.front _ _ _ c.in_ok-n.n c.loop-turn._turn c.next_place-from.ensures.bound c.if-n-eq0.true c.in_ok-n.ensures.brings
     c.loop-turn.invariant.1
 
 pub returns-clause-holds : goal.returns-clause-holds

@@ -1,8 +1,9 @@
--- `judges::rtk_evaluate`: the book found and asked; the refusal is turned by its number.
+-- `judges::rtk_evaluate`: the book found and asked; the answer is turned by its number.
 -- Assumes nothing.
-use mathlib.Core.Path.{◌∙◌}
+use Rattle.std.proofs.Common.{◌∙◌}
+use Rattle.doubles.proofs.Laws.{plain_answer}
 use Rattle.judges.proofs.Evaluated.{evaluation-asked}
 use Rattle.judges.proofs.rtk_evaluate.Goals as goal
 
 pub returns : goal.returns
-returns c = c.plain.ensures ∙ evaluation-asked _ _ _ c.found.ensures _ _ c.evaluate-e.ensures c.turned_away.ensures
+returns c = c.from.ensures ∙ plain_answer _ _ (rw c.addressed.ensures (evaluation-asked _ _ _ c.found-b.ensures _ c.evaluate-evaluated.ensures))

@@ -1,32 +1,21 @@
--- `lent::formed_from`: what is left to look at gives what the whole gives.
+-- `lent::formed_from`: by the length, then what `all` says of the numbers of the books.
 -- Assumes nothing.
-use Prim.Native.Nat.{◌<◌}
-use native.Mathlib.Omega.{arith}
-use mathlib.Core.Path.{◌≡◌, refl, sym, ◌∙◌}
-use Rattle.paper.proofs.Tests.{known}
-use Rattle.lent.proofs.Image.{form-on, form_stop, form_end, between_long, between_is}
+use Prim.Native.Nat.{◌-◌, ◌*◌}
+use mathlib.Core.Path.{refl, sym, ◌∙◌}
 use borrow.Author.Rules.{rules}
+use borrow.Author.Tests.{tests}
+use Rattle.std.proofs.lemmas.Iterator.{YieldsList-from_range}
+use Rattle.std.proofs.lemmas.Iterator.Search.{all_from_yields_List}
+use Rattle.book.specs.Meaning.{book_form}
+use Rattle.stored.specs.Image.{BOOK, book_at}
+use Rattle.lent.proofs.Image.{forms_by, between_off, between_is}
 use Rattle.lent.proofs.formed_from.Goals as goal
 
-pub returns-then-register-ne-REGISTER : goal.returns-then-register-ne-REGISTER
-returns-then-register-ne-REGISTER c = search (between_long, rules)
+pub returns-then-register-eq-REGISTER : goal.returns-then-register-eq-REGISTER
+returns-then-register-eq-REGISTER c = let a = c.args in
+    all_from_yields_List (λ k. book_form (book_at a.register.now (k * BOOK))) _ _ _ c.all.ensures.ran (YieldsList-from_range a.from a.to (a.to - a.from) refl refl) (λ x b q k. search (rules, tests))
+    ∙ forms_by _ a.from a.to
+    ∙ sym (between_is _ a.from a.to (search rules))
 
-pub loop-k-init : goal.loop-k-init
-loop-k-init c = (c.requires.0, refl)
-
-pub in_form-requires : goal.in_form-requires
-in_form-requires c = omega (arith, c.requires.1)
-
-pub loop-k-preserved : goal.loop-k-preserved
-loop-k-preserved c = let at = c.loop-k in
-    let h : at.k < c.args.to = omega arith in
-    (omega arith, at.invariant.1 ∙ form-on _ c.args.to _ h (known c.in_form.ensures c.if-in_form.true))
-
-pub returns-else-in_form : goal.returns-else-in_form
-returns-else-in_form c = let at = c.loop-k in
-    let h : at.k < c.args.to = omega arith in
-    sym (between_is _ _ _ (search rules) ∙ at.invariant.1 ∙ form_stop _ c.args.to _ h (known c.in_form.ensures c.if-in_form.false))
-
-pub returns : goal.returns
-returns c = let h : c.loop-k.k ≡ c.args.to = omega arith in
-    sym (between_is _ _ _ (search rules) ∙ c.loop-k.invariant.1 ∙ form_end _ c.args.to _ h)
+pub returns-else-register-eq-REGISTER : goal.returns-else-register-eq-REGISTER
+returns-else-register-eq-REGISTER c = search (between_off, rules)

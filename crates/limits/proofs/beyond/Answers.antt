@@ -1,6 +1,5 @@
 -- `limits::beyond` meets its contract. Assumes nothing.
-use native.Mathlib.Omega.{arith}
-use borrow.Author.Rules.{rules}
+use Rattle.std.proofs.Common.{arith, rules}
 use Rattle.limits.proofs.Limits.{squared, beyond_is}
 use Rattle.limits.proofs.beyond.Goals as goal
 

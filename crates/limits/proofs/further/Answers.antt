@@ -1,5 +1,5 @@
 -- `limits::further` meets its contract. Assumes nothing.
-use mathlib.Core.Path.{sym, ◌∙◌}
+use Rattle.std.proofs.Common.{sym, ◌∙◌}
 use Rattle.limits.proofs.Limits.{above_it, below_it, near_it}
 use Rattle.limits.proofs.further.Goals as goal
 

@@ -1,6 +1,5 @@
 -- `limits::limit` meets its contract. Assumes nothing.
-use Prim.Native.Nat.{◌-◌, ◌≤◌}
-use native.Mathlib.Omega.{arith}
+use Rattle.std.proofs.Common.{◌-◌, ◌≤◌, arith}
 use Rattle.paper.specs.Procedure.{SPREAD}
 use Rattle.image.specs.Lengths.{ORIGIN}
 use Rattle.limits.proofs.Limits.{squared, limit_is}

@@ -1,5 +1,5 @@
 -- `limits::most_passing` meets its contract. Assumes nothing.
-use mathlib.Core.Path.{ap, ◌∙◌}
+use Rattle.std.proofs.Common.{ap, ◌∙◌}
 use Rattle.whole.specs.Greatest.{greatest_of}
 use Rattle.limits.specs.Most.{most_passing}
 use Rattle.limits.proofs.most_passing.Goals as goal

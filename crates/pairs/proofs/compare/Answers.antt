@@ -1,16 +1,20 @@
--- `pairs::compare` meets its contract. Assumes nothing.
-use mathlib.Core.Path.{sym, ◌∙◌}
+-- `pairs::compare`: by what the books meet.
+-- Assumes nothing.
+use Rattle.std.proofs.Common.{◌∙◌}
+use Rattle.std.proofs.lemmas.Result.{err_from_is_err_and}
 use Rattle.book.proofs.Opened.{words-formed}
-use Rattle.pairs.proofs.Asks.{Comparable, comparable, compared_refused, compared_open}
+use Rattle.pairs.proofs.Asks.{comparable, compared_refused, compared_open}
 use Rattle.pairs.proofs.compare.Goals as goal
 
-pub returns-then-refusal-ne0 : goal.returns-then-refusal-ne0
-returns-then-refusal-ne0 c = c.not_compared.ensures ∙ compared_refused _ _ _ _ c.refused-refusal.ensures c.if-refusal-ne0.true
+pub returns-in_err-axis : goal.returns-in_err-axis
+returns-in_err-axis c = let p = err_from_is_err_and c.from_residual.result c.from_residual.ensures.1 in
+    rw (p.1, p.2) (compared_refused _ _ _ _ c.in_err-axis.ensures)
 
-pub compare-requires : goal.compare-requires
-compare-requires c = let s = c.args in
-    let o : Comparable s.first s.second s.axis = comparable _ _ _ (sym c.if-refusal-ne0.false ∙ c.refused-refusal.ensures) in
-    (o.axis-known, words-formed _ o.first, words-formed _ o.second)
+pub invariant_of-one : goal.invariant_of-one
+invariant_of-one c = record { formed = words-formed _ (comparable _ _ _ _ c.in_ok-axis.ensures).first }
+
+pub invariant_of-other : goal.invariant_of-other
+invariant_of-other c = record { formed = words-formed _ (comparable _ _ _ _ c.in_ok-axis.ensures).second }
 
 pub returns : goal.returns
-returns c = c.compare.ensures ∙ compared_open _ _ _ (comparable _ _ _ (sym c.if-refusal-ne0.false ∙ c.refused-refusal.ensures))
+returns c = c.compare.ensures ∙ compared_open _ _ _ _ (comparable _ _ _ _ c.in_ok-axis.ensures)

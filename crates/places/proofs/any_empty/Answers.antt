@@ -1,18 +1,14 @@
--- `places::any_empty`: what is left to look at gives what the whole gives.
+-- `places::any_empty`: what `any` says of the numbers of the places.
 -- Assumes nothing.
-use native.Mathlib.Omega.{arith}
-use mathlib.Core.Path.{sym, ◌∙◌}
-use Rattle.places.proofs.Turns.{empty-start, empty-on, empty_stop, empty_end}
+use mathlib.Core.Path.{refl, ◌∙◌}
+use borrow.Author.Rules.{rules}
+use borrow.Author.Tests.{tests}
+use Rattle.std.proofs.lemmas.Iterator.{YieldsList-from_range}
+use Rattle.std.proofs.lemmas.Iterator.Search.{any_from_yields_List}
+use Rattle.paper.specs.Procedure.{PLACES}
+use Rattle.places.proofs.Turns.{empty, empties_all}
 use Rattle.places.proofs.any_empty.Goals as goal
 
-pub loop-p-init : goal.loop-p-init
-loop-p-init c = (omega arith, empty-start _)
-
-pub returns-then-empty_at : goal.returns-then-empty_at
-returns-then-empty_at c = sym (c.loop-p.invariant.1 ∙ empty_stop _ _ c.loop-p-test.true (sym c.empty_at.ensures ∙ c.if-empty_at.true))
-
-pub loop-p-preserved : goal.loop-p-preserved
-loop-p-preserved c = (omega arith, c.loop-p.invariant.1 ∙ empty-on _ _ c.loop-p-test.true (sym c.empty_at.ensures ∙ c.if-empty_at.false))
-
 pub returns : goal.returns
-returns c = sym (c.loop-p.invariant.1 ∙ empty_end _ _ (omega arith))
+returns c = any_from_yields_List (empty c.args.cells.now) _ _ _ c.any.ensures.ran (YieldsList-from_range 0 PLACES PLACES refl refl) (λ x b q k. search (rules, tests))
+    ∙ empties_all _

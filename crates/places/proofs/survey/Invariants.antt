@@ -2,9 +2,9 @@
 -- Assumes nothing.
 use mathlib.Core.Path.{◌≡◌}
 use mathlib.Core.Bool.{◌&&◌}
-use Prim.Native.Nat.{◌-◌, ◌*◌, ◌≤◌}
+use Prim.Native.Nat.{◌*◌}
 use lib.ListN.{length}
-use Rattle.paper.specs.Procedure.{ROUNDS, PLACES}
+use Rattle.paper.specs.Procedure.{PLACES}
 use Rattle.paper.specs.Units.{all_near}
 use Rattle.image.specs.Lengths.{terms_of}
 use Rattle.image.specs.Places.{places_of}
@@ -13,7 +13,4 @@ use Rattle.places.proofs.Marks.{MarksTo}
 use Rattle.places.proofs.survey.Given as goal
 
 abbrev pub invariant-loop-set : goal.invariant-loop-set
-invariant-loop-set l = (l.set ≤ ROUNDS) × (length l.marks ≡ PLACES) × MarksTo (l.set * 2) l.marks l.cells × (l.near && near_from l.cells (terms_of l.t) (l.set * 2) ≡ all_near (terms_of l.t) 0 (places_of l.cells))
-
-abbrev pub decreases-loop-set : goal.decreases-loop-set
-decreases-loop-set l = ROUNDS - l.set
+invariant-loop-set l = (length l.marks ≡ PLACES) × MarksTo (l.set * 2) l.marks l.cells × (l.near && near_from l.cells (terms_of l.t) (l.set * 2) ≡ all_near (terms_of l.t) 0 (places_of l.cells))

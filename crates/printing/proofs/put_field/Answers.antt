@@ -1,40 +1,21 @@
--- `printing::put_field`: the sign, the digits, and one byte.
+-- `printing::put_field`: the number, and one byte.
 -- Assumes nothing.
-use native.Mathlib.Omega.{arith}
-use borrow.Author.Rules.{rules}
-use lib.ListN.{length-set}
-use Rattle.printing.proofs.Rows.{room-minus, put-minus, room_plus, put_plus}
+use Rattle.std.proofs.Common.{◌∷◌, [], length, arith, length-append, rules, refl, ap, ◌∙◌}
+use Rattle.decimals.specs.Numbers.{numeral}
+use Rattle.printing.proofs.Numbers.{text_of}
 use Rattle.printing.proofs.put_field.Goals as goal
 
-pub bounds-out-at : goal.bounds-out-at
-bounds-out-at c = let a = c.args in omega (arith, room-minus a.z a.sep (search rules), c.requires)
+pub put_fixed-requires : goal.put_fixed-requires
+put_fixed-requires g c =
+    let text = c.as_bytes.ensures.value ∙ c.format.ensures.text ∙ text_of c.args.number c.ranges.number in
+    (search rules, omega (arith, ap length text, length-append (numeral c.args.number) (c.args.sep ∷ []), c.requires))
 
-pub put_digits-n-requires : goal.put_digits-n-requires
-put_digits-n-requires c = let a = c.args in simp length-set (omega (arith, room-minus a.z a.sep (search rules), c.requires))
+pub push-requires : goal.push-requires
+push-requires g c =
+    let text = c.as_bytes.ensures.value ∙ c.format.ensures.text ∙ text_of c.args.number c.ranges.number in
+    (search rules, omega (arith, ap length text, ap length c.put_fixed.ensures, length-append c.args.out.now.items c.as_bytes.result.now, length-append (numeral c.args.number) (c.args.sep ∷ []), c.requires))
 
-pub bounds-out-n : goal.bounds-out-n
-bounds-out-n c = let a = c.args in omega (arith, room-minus a.z a.sep (search rules), c.requires, c.put_digits-n.ensures.end, simp length-set at c.put_digits-n.auto.out)
-
-pub overflow_add-result : goal.overflow_add-result
-overflow_add-result c = let a = c.args in omega (arith, room-minus a.z a.sep (search rules), c.requires, c.put_digits-n.ensures.end)
-
-pub put_digits-n-requires-else-z-lt-ORIGIN : goal.put_digits-n-requires-else-z-lt-ORIGIN
-put_digits-n-requires-else-z-lt-ORIGIN c = let a = c.args in omega (arith, room_plus a.z a.sep (search rules), c.requires)
-
-pub bounds-out-n-else-z-lt-ORIGIN : goal.bounds-out-n-else-z-lt-ORIGIN
-bounds-out-n-else-z-lt-ORIGIN c = let a = c.args in omega (arith, room_plus a.z a.sep (search rules), c.requires, c.put_digits-n-else-z-lt-ORIGIN.ensures.end, c.put_digits-n-else-z-lt-ORIGIN.auto.out)
-
-pub overflow_add-result-else-z-lt-ORIGIN : goal.overflow_add-result-else-z-lt-ORIGIN
-overflow_add-result-else-z-lt-ORIGIN c = let a = c.args in omega (arith, room_plus a.z a.sep (search rules), c.requires, c.put_digits-n-else-z-lt-ORIGIN.ensures.end)
-
-pub shape_of-out-then-z-lt-ORIGIN : goal.shape_of-out-then-z-lt-ORIGIN
-shape_of-out-then-z-lt-ORIGIN c = simp length-set (simp length-set at c.put_digits-n.auto.out)
-
-pub returns-then-z-lt-ORIGIN : goal.returns-then-z-lt-ORIGIN
-returns-then-z-lt-ORIGIN c = let a = c.args in
-    let r = room-minus a.z a.sep (search rules) in
-    put-minus _ _ (search rules) (omega (arith, r, c.requires)) c.put_digits-n.ensures (simp length-set at c.put_digits-n.auto.out) (omega (arith, r, c.requires, c.put_digits-n.ensures.end))
-
-pub returns-else-z-lt-ORIGIN : goal.returns-else-z-lt-ORIGIN
-returns-else-z-lt-ORIGIN c = let a = c.args in
-    put_plus _ _ (search rules) c.put_digits-n-else-z-lt-ORIGIN.ensures c.put_digits-n-else-z-lt-ORIGIN.auto.out (omega (arith, room_plus a.z a.sep (search rules), c.requires, c.put_digits-n-else-z-lt-ORIGIN.ensures.end))
+pub returns : goal.returns
+returns g c =
+    let text = c.as_bytes.ensures.value ∙ c.format.ensures.text ∙ text_of c.args.number c.ranges.number in
+    rw (c.push.ensures.items, c.put_fixed.ensures, text) refl

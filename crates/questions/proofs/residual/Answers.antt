@@ -1,37 +1,35 @@
--- `questions::residual` meets its contract. Assumes nothing.
-use mathlib.Core.Path.{ap, ◌∙◌}
-use Rattle.paper.specs.Units.{Place}
-use Rattle.paper.proofs.Tests.{known}
-use Rattle.places.proofs.Meets.{ready}
-use Rattle.book.specs.declared.Aim.{Aim}
-use Rattle.book.proofs.Meaning.{Sized}
-use Rattle.book.proofs.Sought.{place-small}
+-- `questions::residual`: by what the call meets; SHORT; or the residuals.
+-- Assumes nothing.
+use Rattle.std.proofs.Common.{ap, ◌∙◌}
+use Rattle.std.proofs.lemmas.Result.{err_from_is_err_and}
+use Rattle.paper.specs.Units.{zeros}
+use Rattle.paper.specs.Answers.{lengths}
+use Rattle.procedure.specs.Refused.{told}
+use Rattle.procedure.proofs.Told.{handed_on}
 use Rattle.book.proofs.Opened.{words-formed}
-use Rattle.questions.proofs.Asks.{residual_refused, aimed, on-opened, residual_short, residual_full}
-use borrow.Author.Rules.{rules}
+use Rattle.book.proofs.Sought.{On, aim-on}
+use Rattle.readings.specs.Answers.{reading_in}
+use Rattle.questions.proofs.Asks.{residual_refused, on-opened, residual_short, residual_full}
 use Rattle.questions.proofs.residual.Goals as goal
+use Rattle.questions.proofs.residual.Goals.{In_ok-place}
 
-pub returns-then-refusal-ne0 : goal.returns-then-refusal-ne0
-returns-then-refusal-ne0 c = let s = c.args in
-    let at : Place = record { series = s.series; set = s.set; point = s.point } in
-    c.no_lengths.ensures ∙ residual_refused _ at _ (ap (λ (a : Aim). a.refusal) c.aim-aim.ensures) c.if-refusal-ne0.true
+-- the place in hand
+there : (c : In_ok-place) → On c.args.b.now (record { series = c.args.series; set = c.args.set; point = c.args.point }) c.in_ok-place.place
+there c = aim-on _ _ _ c.in_ok-place.ensures.goes
 
-pub returns-then-any_empty : goal.returns-then-any_empty
-returns-then-any_empty c = let s = c.args in
-    let at : Place = record { series = s.series; set = s.set; point = s.point } in
-    let o = aimed _ at _ c.aim-aim.ensures c.if-refusal-ne0.false in
-    c.no_lengths-then-any_empty.ensures ∙ residual_short _ at _ o (known c.any_empty.ensures c.if-any_empty.true)
+pub returns-in_err-place : goal.returns-in_err-place
+returns-in_err-place c = let p = err_from_is_err_and c.from_residual.result c.from_residual.ensures.1 in
+    rw (p.1, p.2) (residual_refused _ _ _ c.in_err-place.ensures.goes)
 
-pub residuals-requires : goal.residuals-requires
-residuals-requires c = let s = c.args in
-    let at : Place = record { series = s.series; set = s.set; point = s.point } in
-    let z : Sized s.b = record { terms = search rules; cells = search rules; changes = search rules } in
-    let o = aimed _ at _ c.aim-aim.ensures c.if-refusal-ne0.false in
-    let f = words-formed _ (on-opened s.b at _ o) in
-    (place-small _ z at _ o, ready _ _ f.0 f.1 (known c.any_empty.ensures c.if-any_empty.false))
+pub invariant_of-open : goal.invariant_of-open
+invariant_of-open c = record { formed = words-formed _ (on-opened _ _ _ (there (goal.at.invariant_of-open c).In_ok-place)) }
+
+pub returns-in_err-full : goal.returns-in_err-full
+returns-in_err-full c = let h = c.in_err-full.ensures in
+    let p = err_from_is_err_and c.from_residual-in_err-full.result c.from_residual-in_err-full.ensures.1 in
+    let empty = rw h.ok_part at c.full.ensures in
+    ap (told reading_in (lengths zeros)) (handed_on _ _ _ _ _ h.ok_part h.value p.2 p.1) ∙ residual_short _ _ _ (there (goal.at.returns-in_err-full c).In_ok-place) empty
 
 pub returns : goal.returns
-returns c = let s = c.args in
-    let at : Place = record { series = s.series; set = s.set; point = s.point } in
-    let o = aimed _ at _ c.aim-aim.ensures c.if-refusal-ne0.false in
-    c.residuals.ensures ∙ residual_full _ at _ o (known c.any_empty.ensures c.if-any_empty.false)
+returns c = let e = rw c.in_ok-full.ensures.ok_part at c.full.ensures in
+    residual_full _ _ _ (there (goal.at.returns c).In_ok-place) _ (rw e.2 at e.0) (rw (e.1, e.2) at c.residuals.ensures)

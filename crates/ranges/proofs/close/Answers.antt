@@ -1,11 +1,7 @@
--- `ranges::close`: by which of the two is greater.
+-- `ranges::close`: how far two words are apart.
 -- Assumes nothing.
-use borrow.Author.Rules.{rules}
-use Rattle.ranges.proofs.Laws.{close_less, close_more}
+use Rattle.ranges.proofs.Laws.{close_is}
 use Rattle.ranges.proofs.close.Goals as goal
 
-pub returns-then-b-a : goal.returns-then-b-a
-returns-then-b-a c = search (close_less, rules)
-
 pub returns : goal.returns
-returns c = search (close_more, rules)
+returns c = rw c.abs_diff.ensures (close_is _ _ _)

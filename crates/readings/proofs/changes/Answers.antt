@@ -1,18 +1,15 @@
 -- `readings::changes`: by what the book meets.
 -- Assumes nothing.
-use mathlib.Core.Path.{◌∙◌}
-use Rattle.book.proofs.Meaning.{Sized}
+use Rattle.std.proofs.Common.{rules}
+use Rattle.std.proofs.lemmas.Result.{err_from_is_err_and}
+use Rattle.book.proofs.Meaning.{sized}
 use Rattle.book.proofs.Opened.{met_open}
 use Rattle.readings.proofs.Asks.{count-refused, count-open}
-use borrow.Author.Rules.{rules}
 use Rattle.readings.proofs.changes.Goals as goal
-use Rattle.readings.proofs.changes.Goals.{Start}
 
-sized : (s : Start) → Sized s.args.b
-sized s = record { terms = search rules; cells = search rules; changes = search rules }
-
-pub returns-then-met-ne0 : goal.returns-then-met-ne0
-returns-then-met-ne0 c = c.no_count.ensures ∙ count-refused _ _ c.met-met.ensures (search rules)
+pub returns-in_err-met : goal.returns-in_err-met
+returns-in_err-met c = let p = err_from_is_err_and c.from_residual.result c.from_residual.ensures.1 in
+    rw (p.1, p.2) (count-refused _ _ c.in_err-met.ensures)
 
 pub returns : goal.returns
-returns c = search (count-open, met_open, sized (goal.at.returns c).Start, rules)
+returns c = count-open _ (search (sized, rules)) (met_open _ c.in_ok-met.ensures)

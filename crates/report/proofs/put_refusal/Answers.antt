@@ -1,45 +1,40 @@
 -- `report::put_refusal`: two pieces, the numbers by the refusal.
 -- Assumes nothing.
-use borrow.Author.Rules.{rules}
-use mathlib.Core.Path.{◌∙◌, ap, sym}
-use mathlib.Core.List.{[], ◌∷◌}
+use Rattle.std.proofs.Common.{rules}
 use Rattle.decimals.specs.Ascii.{ascii}
 use Rattle.decimals.specs.Numbers.{line}
+use Rattle.printing.proofs.Numbers as number
+use Rattle.printing.proofs.Pieces.{room_first, room_second, both}
+use Rattle.procedure.specs.Refused.{number_of, named_by}
 use Rattle.report.specs.Text.{REFUSED, refusal_numbers, refusal_text}
-use Rattle.report.specs.Given.{suspect}
-use Rattle.printing.proofs.Rows.{put_as, room_as}
-use Rattle.axes.proofs.Pieces.{first_fits, second_fits, two-put, starts, lens_up}
 use Rattle.report.proofs.Pieces.{numbers-suspect, numbers_other}
 use Rattle.report.proofs.put_refusal.Goals as goal
 
-pub put_fixed-i-requires : goal.put_fixed-i-requires
+pub put_fixed-requires : goal.put_fixed-requires
 unfolding refusal_text ascii
-put_fixed-i-requires c = search (first_fits, starts, rules)
+put_fixed-requires g c = let r = c.args.refusal in
+    (search rules, room_first _ REFUSED (line (refusal_numbers (number_of r) (named_by r))) _ c.requires)
 
 pub put_numbers-requires : goal.put_numbers-requires
 unfolding refusal_text ascii
-put_numbers-requires c = let a = c.args in
-    let s = suspect a.series a.set a.quantity in
-    room_as _ _ (ap line (numbers-suspect a.refusal s (search rules) ∙ sym (lens_up (a.refusal ∷ a.series ∷ a.set ∷ a.quantity ∷ []))))
-    (second_fits _ 0 REFUSED (line (refusal_numbers a.refusal s)) (starts c.requires.4) c.put_fixed-i.ensures c.put_fixed-i.auto.out)
+put_numbers-requires g c = let r = c.args.refusal in
+    let room = room_second _ REFUSED (line (refusal_numbers (number_of r) (named_by r))) _ c.requires _ c.put_fixed.ensures in
+    let n = c.names-named.result in
+    (search rules, rw (number.number_of c.from.result c.number.result (search rules) c.from.ensures, number.number_of c.from-2.result n.series (search rules) c.from-2.ensures, number.number_of c.from-3.result n.set (search rules) c.from-3.ensures, number.number_of c.from-4.result n.quantity (search rules) c.from-4.ensures, c.number.ensures, c.names-named.ensures, ← numbers-suspect r _ c.in-Suspect.is) room)
 
-pub returns-then-refusal-eq-SUSPECT : goal.returns-then-refusal-eq-SUSPECT
+pub put_numbers-requires-in_default : goal.put_numbers-requires-in_default
 unfolding refusal_text ascii
-returns-then-refusal-eq-SUSPECT c = let a = c.args in
-    let s = suspect a.series a.set a.quantity in
-    two-put _ 0 REFUSED _ (starts c.requires.4) c.put_fixed-i.ensures
-    (put_as (ap line (numbers-suspect a.refusal s (search rules) ∙ sym (lens_up (a.refusal ∷ a.series ∷ a.set ∷ a.quantity ∷ [])))) c.put_numbers.ensures)
+put_numbers-requires-in_default g c = let r = c.args.refusal in
+    let room = room_second _ REFUSED (line (refusal_numbers (number_of r) (named_by r))) _ c.requires _ c.put_fixed.ensures in
+    (search rules, rw (number.number_of c.from.result c.number.result (search rules) c.from.ensures, c.number.ensures, ← numbers_other r c.in_default.not-Suspect) room)
 
-pub put_numbers-requires-2 : goal.put_numbers-requires-2
+pub returns-in-Suspect : goal.returns-in-Suspect
 unfolding refusal_text ascii
-put_numbers-requires-2 c = let a = c.args in
-    let s = suspect a.series a.set a.quantity in
-    room_as _ _ (ap line (numbers_other a.refusal s (search rules) ∙ sym (lens_up (a.refusal ∷ []))))
-    (second_fits _ 0 REFUSED (line (refusal_numbers a.refusal s)) (starts c.requires.4) c.put_fixed-i.ensures c.put_fixed-i.auto.out)
+returns-in-Suspect g c = let r = c.args.refusal in
+    let n = c.names-named.result in
+    both _ REFUSED (line (refusal_numbers (number_of r) (named_by r))) _ c.requires _ c.put_fixed.ensures _ (rw (number.number_of c.from.result c.number.result (search rules) c.from.ensures, number.number_of c.from-2.result n.series (search rules) c.from-2.ensures, number.number_of c.from-3.result n.set (search rules) c.from-3.ensures, number.number_of c.from-4.result n.quantity (search rules) c.from-4.ensures, c.number.ensures, c.names-named.ensures, ← numbers-suspect r _ c.in-Suspect.is) at c.put_numbers.ensures)
 
-pub returns : goal.returns
+pub returns-in_default : goal.returns-in_default
 unfolding refusal_text ascii
-returns c = let a = c.args in
-    let s = suspect a.series a.set a.quantity in
-    two-put _ 0 REFUSED _ (starts c.requires.4) c.put_fixed-i.ensures
-    (put_as (ap line (numbers_other a.refusal s (search rules) ∙ sym (lens_up (a.refusal ∷ [])))) c.put_numbers-2.ensures)
+returns-in_default g c = let r = c.args.refusal in
+    both _ REFUSED (line (refusal_numbers (number_of r) (named_by r))) _ c.requires _ c.put_fixed.ensures _ (rw (number.number_of c.from.result c.number.result (search rules) c.from.ensures, c.number.ensures, ← numbers_other r c.in_default.not-Suspect) at c.put_numbers-in_default.ensures)

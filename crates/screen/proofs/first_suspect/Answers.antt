@@ -1,13 +1,12 @@
 -- `screen::first_suspect` meets its contract. The invariant: nothing is found, and the series and sets before are clear. Assumes nothing.
-use native.Mathlib.Omega.{arith}
-use mathlib.Core.Path.{sym, ◌∙◌}
-use borrow.Author.Rules.{rules}
+use Rattle.std.proofs.Common.{arith, sym, ap, ◌∙◌, rules}
 use Rattle.image.specs.Lengths.{terms_of}
+use Rattle.screen.specs.Named.{found_of}
 use Rattle.screen.proofs.Order.{start, start-row, at-distance, at-height, on, on-series, nowhere}
 use Rattle.screen.proofs.first_suspect.Goals as goal
 
 pub most_passing-most-requires : goal.most_passing-most-requires
-most_passing-most-requires c = c.requires.scales 2 (omega arith) (omega arith)
+most_passing-most-requires c = c.args.book.ready.scales 2 (omega arith) (omega arith)
 
 pub search-init : goal.search-init
 search-init c = (search rules, omega arith, omega arith, start _ _)
@@ -18,7 +17,7 @@ loop-set-init c = (c.search.invariant.0, omega arith, omega arith, omega arith, 
 pub distance_suspect-requires : goal.distance_suspect-requires
 unfolding terms_of
 distance_suspect-requires c = let v = c.loop-set.invariant in
-    (v.1, v.2, v.3, omega arith, c.requires, c.most_passing-most.ensures)
+    (v.1, v.2, v.3, omega arith, c.most_passing-most.ensures)
 
 pub loop-set-preserved : goal.loop-set-preserved
 loop-set-preserved c = let v = c.loop-set.invariant in
@@ -32,7 +31,7 @@ search-preserved c = let v = c.loop-set.invariant in
 
 pub returns-after-search : goal.returns-after-search
 returns-after-search c = let v = c.search.invariant in
-    v.0 ∙ nowhere _ _ _ (omega arith) v.3
+    ap found_of v.0 ∙ nowhere _ _ _ (omega arith) v.3
 
 pub returns-then-distance_suspect : goal.returns-then-distance_suspect
 returns-then-distance_suspect c = let v = c.loop-set.invariant in

@@ -1,6 +1,5 @@
 -- `sets::distance_suspect` meets its contract. Assumes nothing.
-use native.Mathlib.Omega.{arith}
-use borrow.Author.Rules.{rules}
+use Rattle.std.proofs.Common.{arith, rules}
 use Rattle.sets.proofs.Sets.{bounds, most-small, distance_is}
 use Rattle.sets.proofs.distance_suspect.Goals as goal
 
@@ -8,7 +7,7 @@ pub q_from-q-requires : goal.q_from-q-requires
 q_from-q-requires c = search (bounds, rules)
 
 pub further-requires : goal.further-requires
-further-requires c = omega (arith, most-small _ _ c.requires.4 c.args.most c.requires.5)
+further-requires c = omega (arith, most-small _ _ c.args.book.ready c.args.most c.requires.4)
 
 pub returns : goal.returns
 returns c = search (distance_is, rules)

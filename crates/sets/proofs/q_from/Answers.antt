@@ -1,8 +1,5 @@
 -- `sets::q_from` meets its contract. Assumes nothing.
-use Prim.Native.Nat.{◌+◌, ◌≤◌}
-use native.Mathlib.Omega.{arith}
-use mathlib.Core.Path.{◌≡◌}
-use borrow.Author.Rules.{rules}
+use Rattle.std.proofs.Common.{◌+◌, ◌≤◌, arith, ◌≡◌, rules}
 use Rattle.limits.proofs.Limits.{squared}
 use Rattle.sets.specs.Words.{APART}
 use Rattle.sets.proofs.Sets.{q_from_is}

@@ -1,7 +1,5 @@
 -- `sums::added_up` meets its contract. The invariant: both sums of what was passed, each with its bound. Assumes nothing.
-use Prim.Native.Nat.{ℕ, ◌*◌}
-use native.Mathlib.Omega.{arith}
-use mathlib.Core.Path.{ap}
+use Rattle.std.proofs.Common.{ℕ, ◌*◌, arith, ap}
 use Rattle.integers.specs.Sigma.{ΣN}
 use Rattle.sums.proofs.Laws.{sq_step, sum-next, sum-all}
 use Rattle.sums.proofs.added_up.Goals as goal

@@ -1,5 +1,5 @@
 -- `sums::sums` meets its contract. Assumes nothing.
-use borrow.Author.Rules.{rules}
+use Rattle.std.proofs.Common.{rules}
 use Rattle.sums.proofs.Laws.{totals_are}
 use Rattle.sums.proofs.sums.Goals as goal
 

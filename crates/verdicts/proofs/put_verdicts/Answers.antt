@@ -1,33 +1,39 @@
 -- `verdicts::put_verdicts`: two lines, and the last by both flags.
 -- Assumes nothing.
-use Prim.Native.Nat.{ℕ}
-use borrow.Author.Rules.{rules}
-use mathlib.Core.Path.{◌∙◌}
-use mathlib.Core.List.{List}
-use Rattle.paper.specs.declared.Judged.{Judged}
+use Rattle.std.proofs.Common.{◌++◌, cond, rules}
+use Rattle.paper.specs.Verdicts.{both_within}
 use Rattle.decimals.specs.Ascii.{ascii}
+use Rattle.printing.proofs.Pieces.{room_first, room_second, both}
 use Rattle.axes.specs.Text.{axis_line}
-use Rattle.verdicts.specs.Text.{XY, verdict_text}
-use Rattle.axes.proofs.Pieces.{first_fits, second_fits, two-fit, third_fits, all_three, starts}
+use Rattle.verdicts.specs.Text.{XY, H, PASS, FAIL, verdict_text}
 use Rattle.verdicts.proofs.put_verdicts.Goals as goal
 
-abbrev lineXY : Judged → List ℕ
-lineXY j = axis_line XY j
-
-pub put_axis-i-requires : goal.put_axis-i-requires
+pub put_axis-requires : goal.put_axis-requires
 unfolding verdict_text ascii
-put_axis-i-requires c = search (first_fits, two-fit, starts, rules)
+put_axis-requires g c = let a = c.args in
+    let x = axis_line XY a.xy in
+    let y = axis_line H a.h in
+    (search rules, room_first _ x y _ (room_first _ (x ++ y) (cond (both_within a.xy a.h) PASS FAIL) _ c.requires))
 
-pub put_axis-j-requires : goal.put_axis-j-requires
+pub put_axis-requires-2 : goal.put_axis-requires-2
 unfolding verdict_text ascii
-put_axis-j-requires c = let a = c.args in
-    let p = c.requires in
-    (p.1, second_fits _ 0 _ _ (two-fit a.out.now 0 (lineXY a.xy) _ _ (starts p.2)) c.put_axis-i.ensures c.put_axis-i.auto.out)
+put_axis-requires-2 g c = let a = c.args in
+    let x = axis_line XY a.xy in
+    let y = axis_line H a.h in
+    (search rules, room_second _ x y _ (room_first _ (x ++ y) (cond (both_within a.xy a.h) PASS FAIL) _ c.requires) _ c.put_axis.ensures)
 
 pub put_either-requires : goal.put_either-requires
 unfolding verdict_text ascii
-put_either-requires c = third_fits _ 0 _ _ _ (starts c.requires.2) c.put_axis-i.ensures c.put_axis-j.ensures (c.put_axis-j.auto.out ∙ c.put_axis-i.auto.out)
+put_either-requires g c = let a = c.args in
+    let x = axis_line XY a.xy in
+    let y = axis_line H a.h in
+    let z = cond (both_within a.xy a.h) PASS FAIL in
+    (search rules, room_second _ (x ++ y) z _ c.requires _ (both _ x y _ (room_first _ (x ++ y) z _ c.requires) _ c.put_axis.ensures _ c.put_axis-2.ensures))
 
 pub returns : goal.returns
 unfolding verdict_text ascii
-returns c = all_three _ 0 _ _ _ (starts c.requires.2) c.put_axis-i.ensures c.put_axis-j.ensures c.put_either.ensures
+returns g c = let a = c.args in
+    let x = axis_line XY a.xy in
+    let y = axis_line H a.h in
+    let z = cond (both_within a.xy a.h) PASS FAIL in
+    both _ (x ++ y) z _ c.requires _ (both _ x y _ (room_first _ (x ++ y) z _ c.requires) _ c.put_axis.ensures _ c.put_axis-2.ensures) _ c.put_either.ensures

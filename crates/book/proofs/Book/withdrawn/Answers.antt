@@ -1,0 +1,14 @@
+-- `book::Book::withdrawn`: the place sought; what refuses it, or the change.
+-- Assumes nothing.
+use Rattle.std.proofs.Common.{rules}
+use Rattle.std.proofs.lemmas.Result.{err_from_is_err_and}
+use Rattle.book.proofs.Meaning.{sized}
+use Rattle.book.proofs.Changed.{withdrawn, withdraw_refused}
+use Rattle.book.proofs.Book.withdrawn.Goals as goal
+
+pub returns-in_err-place : goal.returns-in_err-place
+returns-in_err-place c = let p = err_from_is_err_and c.from_residual.result c.from_residual.ensures.1 in
+    rw (p.1, p.2) (withdraw_refused _ (search (sized, rules)) _ _ c.in_err-place.ensures.goes)
+
+pub returns : goal.returns
+returns c = withdrawn _ (search (sized, rules)) _ _ c.in_ok-place.ensures.goes _ c.changed.ensures

@@ -1,6 +1,0 @@
--- `printing::put_digits`: the measure is m.
--- Assumes nothing.
-use Rattle.printing.proofs.+put_digits.Given as goal
-
-abbrev pub decreases-put_digits : goal.decreases-put_digits
-decreases-put_digits l = l.m
