@@ -28,8 +28,8 @@ KINDS = [
     (5, "terms and cells as two parameters", r"\bcells: &(?:'a )?\[u64; Layout::CELLS\]|^    c1: "),
     (5, "series, set and point as three parameters", r"\bset: u(?:64|size), point: u|^    point: u64,"),
     (5, "x, y and h as three parameters", r"\by: [ui]64, h: [ui]64|^    h: [ui]64,$"),
-    (6, "a buffer with a length or a flag beside it", r"^    pub (?:bytes|numbers|changes): \[u"),
-    (6, "a place in a slice as a parameter", r"\bs: &\[u8\], at: usize|\bout: &mut \[u(?:8|64)\], (?:at|base): usize|cells: &mut \[u64\], base: usize"),
+    (6, "a buffer with a length or a flag beside it", r"^    pub (?:bytes|numbers|changes): \[u|^    kept: u64,|\bkept: u64\b.*changes: &"),
+    (6, "a place in a slice as a parameter", r"\b(?:s|bytes): &(?:mut )?\[u8\], at: usize|\bout: &mut \[u(?:8|64)\], (?:at|base): usize|cells: &mut \[u64\], base: usize|register: &(?:mut )?\[u8\], a: usize"),
     (7, "function pointers, tables of functions, dyn", r"\bdyn \b|: fn\("),
 ]
 

@@ -4,6 +4,8 @@
 ghost use Rattle.paper.specs.Calls.{on, enter, correct, withdraw, take_back};
 ghost use Rattle.lent.specs.Calls.{Calls};
 
+use numbers::{Place, Reading};
+
 // Enter a reading at an empty place.
 pub fn rtk_enter(
     register: &mut [u8],
@@ -18,7 +20,8 @@ pub fn rtk_enter(
     ensures { Calls (on book (enter (record { series = series; set = set; point = point }) (record { x = x; y = y; h = h }))) register.old result register.new }
 {
     let b = shelf::found(register, book);
-    let entered = b.enter(series, set, point, x, y, h);
+    let at = Place { series, set, point };
+    let entered = b.enter(at, Reading { x, y, h });
     shelving::put_back(register, book, entered)
 }
 
@@ -36,7 +39,8 @@ pub fn rtk_correct(
     ensures { Calls (on book (correct (record { series = series; set = set; point = point }) (record { x = x; y = y; h = h }))) register.old result register.new }
 {
     let b = shelf::found(register, book);
-    let corrected = b.correct(series, set, point, x, y, h);
+    let at = Place { series, set, point };
+    let corrected = b.correct(at, Reading { x, y, h });
     shelving::put_back(register, book, corrected)
 }
 
@@ -45,7 +49,7 @@ pub fn rtk_withdraw(register: &mut [u8], book: u64, series: u64, set: u64, point
     ensures { Calls (on book (withdraw (record { series = series; set = set; point = point }))) register.old result register.new }
 {
     let b = shelf::found(register, book);
-    let withdrawn = b.withdraw(series, set, point);
+    let withdrawn = b.withdraw(Place { series, set, point });
     shelving::put_back(register, book, withdrawn)
 }
 

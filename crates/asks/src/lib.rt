@@ -8,6 +8,7 @@ ghost use Rattle.readings.specs.Answers.{lengths_of, count_of};
 ghost use Rattle.lent.specs.Calls.{called};
 ghost use Rattle.asks.specs.Answers.{checked};
 
+use numbers::Place;
 use procedure::Refusal;
 use readings::{Count, Lengths};
 
@@ -26,7 +27,7 @@ pub fn rtk_read(register: &[u8], book: u64, series: u64, set: u64, point: u64) -
     ensures { result ≡ lengths_of (called (ask (read book (record { series = series; set = set; point = point }))) register.now).answer }
 {
     let b = shelf::found(register, book);
-    let reading = readings::read(&b, series, set, point);
+    let reading = readings::read(&b, Place { series, set, point });
     Lengths::from(shelving::addressed(book, reading))
 }
 

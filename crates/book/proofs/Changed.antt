@@ -1,6 +1,6 @@
 -- A change: the words that it leaves, and the calls that make one.
 -- Assumes nothing.
-use Rattle.std.proofs.Common.{◌≡◌, refl, sym, ap, ◌∙◌, ℕ, suc, ◌+◌, ◌-◌, ◌*◌, ◌≤◌, min, arith, Bool, true, false, cond, not, List, [], ◌∷◌, get_or, length-take, ltb, ltb-true, ltb-false, ℤ}
+use Rattle.std.proofs.Common.{◌≡◌, refl, sym, ap, ◌∙◌, ℕ, suc, ◌+◌, ◌-◌, ◌*◌, ◌≤◌, min, arith, Bool, true, false, cond, not, List, [], ◌∷◌, get_or, length-take, ltb, ltb-true, ltb-false}
 use Rattle.std.specs.Prelude.{Result, Ok, Err}
 use Rattle.std.proofs.Math.Option.{none, some}
 use Rattle.paper.specs.Procedure.{KEPT}
@@ -36,10 +36,10 @@ module _ (b : Book) (s : Sized b) (p : Place) (q : ℕ) (o : On b p q) where
   sound : Sound b
   sound = form-sound b o.form o.opened
 
-  far_is : (x y h : ℤ) → far p (record { x = x; y = y; h = h }) (sight_o b) ≡ not (near (terms_of b.terms) (point_of q) (triple (word_or x) (word_or y) (word_or h)))
+  far_is : (v : Triple) → far p v (sight_o b) ≡ not (near (terms_of b.terms) (point_of q) (triple (word_or v.x) (word_or v.y) (word_or v.h)))
   unfolding far paper.sight open_of
-  far_is x y h =
-      rw (meant-open b o.opened, o.at, told_point p o.in_sheet_lem, near-words (terms_of b.terms) p.point x y h (ranged b s sound))
+  far_is v =
+      rw (meant-open b o.opened, o.at, told_point p o.in_sheet_lem, near-words (terms_of b.terms) p.point v.x v.y v.h (ranged b s sound))
 
   -- ---- the change
 
@@ -65,48 +65,44 @@ module _ (b : Book) (s : Sized b) (p : Place) (q : ℕ) (o : On b p q) where
       (sym (changes_push (KEPT - 1) (change q (spot_at b.cells (q * 3))) (entries b.kept b.changes) ∙ rw (words-before, kept-words b s sound))))
 
   -- ---- an act that puts a reading where it may stand: FAR, or the change
-  placed_is : (a : Act) (x y h : ℤ) → effect a ≡ makes (change (number p) (some (record { x = x; y = y; h = h })))
-      → lowest (rules a (sight_o b)) ≡ lowest (FAR when far p (record { x = x; y = y; h = h }) (sight_o b) ∷ [])
-      → stepped b (placed_of b q (word_or x) (word_or y) (word_or h)) ≡ step_of a b
+  placed_is : (a : Act) (v : Triple) → effect a ≡ makes (change (number p) (some v))
+      → lowest (rules a (sight_o b)) ≡ lowest (FAR when far p v (sight_o b) ∷ [])
+      → stepped b (placed_of b q (word_or v.x) (word_or v.y) (word_or v.h)) ≡ step_of a b
   unfolding lowest placed_of
-  placed_is a x y h ef r = go (near (terms_of b.terms) (point_of q) (triple (word_or x) (word_or y) (word_or h))) refl
+  placed_is a v ef r = go (near (terms_of b.terms) (point_of q) (triple (word_or v.x) (word_or v.y) (word_or v.h))) refl
     where
-      v : Triple
-      v = record { x = x; y = y; h = h }
-
       in_range_lem : in_range (terms_of b.terms) ≡ true
       in_range_lem = ranged b s sound
 
-      go : (n : Bool) → near (terms_of b.terms) (point_of q) (triple (word_or x) (word_or y) (word_or h)) ≡ n
-          → stepped b (cond n (Ok (changed_of b q (word_or x ∷ word_or y ∷ word_or h ∷ []))) (Err is.Far)) ≡ step_of a b
-      go false e = step-refused b a _ s o.form (r ∙ rw (far_is x y h, e))
+      go : (n : Bool) → near (terms_of b.terms) (point_of q) (triple (word_or v.x) (word_or v.y) (word_or v.h)) ≡ n
+          → stepped b (cond n (Ok (changed_of b q (word_or v.x ∷ word_or v.y ∷ word_or v.h ∷ []))) (Err is.Far)) ≡ step_of a b
+      go false e = step-refused b a _ s o.form (r ∙ rw (far_is v, e))
       go true e =
-          let close : near (terms_of b.terms) (point_of q) v ≡ true = sym (near-words (terms_of b.terms) (point_of q) x y h in_range_lem) ∙ e in
-          let w = words_of_lem x y h (near-short (terms_of b.terms) (point_of q) v in_range_lem close) in
-          step-done b a (changed_of b q (word_or x ∷ word_or y ∷ word_or h ∷ [])) o.form (r ∙ rw (far_is x y h, e)) (rw (w, ef) (change_is (some v)))
+          let close : near (terms_of b.terms) (point_of q) v ≡ true = sym (near-words (terms_of b.terms) (point_of q) v.x v.y v.h in_range_lem) ∙ e in
+          let w = words_of_lem v.x v.y v.h (near-short (terms_of b.terms) (point_of q) v in_range_lem close) in
+          step-done b a (changed_of b q (word_or v.x ∷ word_or v.y ∷ word_or v.h ∷ [])) o.form (r ∙ rw (far_is v, e)) (rw (w, ef) (change_is (some v)))
 
 -- ---- an act on a place sought
 
 module _ (b : Book) (s : Sized b) (p : Place) (q : ℕ) where
-  -- a reading put where it goes, whose three words are those of x, y and h
-  placed-step : (w : Wanted) (a : Act) (x y h x' y' h' : ℤ) → Ok q ≡ wanted_of b p w → x' ≡ x → y' ≡ y → h' ≡ h
-      → effect a ≡ makes (change (number p) (some (record { x = x; y = y; h = h })))
-      → rules a (sight_o b) ≡ placed b p (unless_wanted w (empty p (sight_o b)) ∷ FAR when far p (record { x = x; y = y; h = h }) (sight_o b) ∷ [])
-      → (r : Result Book Refusal) → r ≡ placed_of b q (word_or x') (word_or y') (word_or h')
+  -- a reading put where it goes
+  placed-step : (w : Wanted) (a : Act) (v : Triple) → Ok q ≡ wanted_of b p w → effect a ≡ makes (change (number p) (some v))
+      → rules a (sight_o b) ≡ placed b p (unless_wanted w (empty p (sight_o b)) ∷ FAR when far p v (sight_o b) ∷ [])
+      → (r : Result Book Refusal) → r ≡ placed_of b q (word_or v.x) (word_or v.y) (word_or v.h)
       → stepped b r ≡ step_of a b
-  placed-step w a x y h x' y' h' u ex ey eh ef l r er =
+  placed-step w a v u ef l r er =
       let o = sought-on b p w q u in
-      rw (er, ex, ey, eh) (placed_is b s p q o.on a x y h ef (sought_rest b p w s a _ l q o))
+      rw er (placed_is b s p q o.on a v ef (sought_rest b p w s a _ l q o))
 
-  pub entered : (x y h x' y' h' : ℤ) → Ok q ≡ wanted_of b p want.Empty → x' ≡ x → y' ≡ y → h' ≡ h
-      → (r : Result Book Refusal) → r ≡ placed_of b q (word_or x') (word_or y') (word_or h') → stepped b r ≡ step_of (enter p (record { x = x; y = y; h = h })) b
+  pub entered : (v : Triple) → Ok q ≡ wanted_of b p want.Empty
+      → (r : Result Book Refusal) → r ≡ placed_of b q (word_or v.x) (word_or v.y) (word_or v.h) → stepped b r ≡ step_of (enter p v) b
   unfolding rules effect
-  entered x y h x' y' h' u ex ey eh = placed-step want.Empty (enter p (record { x = x; y = y; h = h })) x y h x' y' h' u ex ey eh refl refl
+  entered v u = placed-step want.Empty (enter p v) v u refl refl
 
-  pub corrected : (x y h x' y' h' : ℤ) → Ok q ≡ wanted_of b p want.Filled → x' ≡ x → y' ≡ y → h' ≡ h
-      → (r : Result Book Refusal) → r ≡ placed_of b q (word_or x') (word_or y') (word_or h') → stepped b r ≡ step_of (correct p (record { x = x; y = y; h = h })) b
+  pub corrected : (v : Triple) → Ok q ≡ wanted_of b p want.Filled
+      → (r : Result Book Refusal) → r ≡ placed_of b q (word_or v.x) (word_or v.y) (word_or v.h) → stepped b r ≡ step_of (correct p v) b
   unfolding rules effect
-  corrected x y h x' y' h' u ex ey eh = placed-step want.Filled (correct p (record { x = x; y = y; h = h })) x y h x' y' h' u ex ey eh refl refl
+  corrected v u = placed-step want.Filled (correct p v) v u refl refl
 
   pub withdrawn : Ok q ≡ wanted_of b p want.Filled → (b' : Book) → b' ≡ changed_of b q (0 ∷ 0 ∷ 0 ∷ []) → step 0 b' ≡ step_of (withdraw p) b
   unfolding rules effect lowest spot_words

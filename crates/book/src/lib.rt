@@ -5,10 +5,12 @@ ghost use Rattle.std.specs.Prelude.{◌≡◌, [], ◌∷◌, ◌<◌, get_or, I
 ghost use Rattle.paper.specs.Procedure.{PLACES};
 ghost use Rattle.paper.specs.Calls.{enter, correct, withdraw, take_back};
 ghost use Rattle.image.specs.Lengths.{word_or};
+ghost use Rattle.numbers.specs.Named.{place_named, triple_of};
 ghost use Rattle.book.specs.Meaning.{book_form};
 ghost use Rattle.book.specs.Steps.{step_of, stepped, met_of, aim_of, sought_of, changed_of, undone_of, placed_of};
 
 use image::Layout;
+use numbers::{Place, Reading};
 use procedure::{Procedure, Refusal};
 
 // Words: a length is length + 10^12, three words 0 are an empty place; the changes kept for taking back, latest first, are four words
@@ -22,7 +24,7 @@ pub struct Book {
     pub changes: [u64; Layout::CHANGES],
 }
 
-// The next book beside a refusal number; beside the refusal of an act the book is the one handed in.
+// The next book beside a refusal number, as document 01 asks; beside the refusal of an act the book is the one handed in.
 #[derive(Clone, Copy)]
 pub struct Step {
     pub refusal: u64,
@@ -57,14 +59,14 @@ impl Book {
 
     // The number of the place that a call goes to: it meets REGISTER, PLACE, CLOSED.
     #[tactic(auto, unfolding(crate::specs::Steps::aim_of))]
-    pub fn aim(&self, series: u64, set: u64, point: u64) -> Result<usize, Refusal>
-        ensures goes { result ≡ aim_of self.now (record { series = series; set = set; point = point }) }
+    pub fn aim(&self, at: Place) -> Result<usize, Refusal>
+        ensures goes { result ≡ aim_of self.now (place_named at) }
         ensures within { IfOk result (λ place. place < PLACES) }
     {
         if !in_form(self) {
             return Err(Refusal::Register);
         }
-        let place = numbers::place_of(series, set, point);
+        let place = numbers::place_of(at);
         if place >= Procedure::PLACES {
             return Err(Refusal::Place);
         }
@@ -79,16 +81,14 @@ impl Book {
     #[tactic(auto, unfolding(crate::specs::Steps::sought_of))]
     pub fn sought(
         &self,
-        series: u64,
-        set: u64,
-        point: u64,
+        at: Place,
         empty: Option<Refusal>,
         filled: Option<Refusal>,
     ) -> Result<usize, Refusal>
-        ensures goes { result ≡ sought_of self.now (record { series = series; set = set; point = point }) empty filled }
+        ensures goes { result ≡ sought_of self.now (place_named at) empty filled }
         ensures within { IfOk result (λ place. place < PLACES) }
     {
-        let place = self.aim(series, set, point)?;
+        let place = self.aim(at)?;
         let met = if places::empty_at(&self.cells, place) {
             empty
         } else {
@@ -118,15 +118,15 @@ impl Book {
 
     // The book with a reading at a place; FAR where it may not stand there.
     #[tactic(auto, unfolding(crate::specs::Steps::placed_of))]
-    fn placed(&self, place: usize, x: i64, y: i64, h: i64) -> Result<Book, Refusal>
+    fn placed(&self, place: usize, reading: Reading) -> Result<Book, Refusal>
         requires { place < PLACES }
-        ensures { result ≡ placed_of self.now place (word_or x) (word_or y) (word_or h) }
+        ensures { result ≡ placed_of self.now place (word_or reading.x) (word_or reading.y) (word_or reading.h) }
     {
-        let wx = numbers::word_of(x);
-        let wy = numbers::word_of(y);
-        let wh = numbers::word_of(h);
-        if ranges::near(&self.terms, place, wx, wy, wh) {
-            return Ok(self.changed(place, wx, wy, wh));
+        let x = numbers::word_of(reading.x);
+        let y = numbers::word_of(reading.y);
+        let h = numbers::word_of(reading.h);
+        if ranges::near(&self.terms, place, x, y, h) {
+            return Ok(self.changed(place, x, y, h));
         }
         Err(Refusal::Far)
     }
@@ -148,40 +148,24 @@ impl Book {
 
 // Each act by itself: the next book, or what refuses it.
 impl Book {
-    fn entered(
-        &self,
-        series: u64,
-        set: u64,
-        point: u64,
-        x: i64,
-        y: i64,
-        h: i64,
-    ) -> Result<Book, Refusal>
-        ensures { stepped self.now result ≡ step_of (enter (record { series = series; set = set; point = point }) (record { x = x; y = y; h = h })) self.now }
+    fn entered(&self, at: Place, reading: Reading) -> Result<Book, Refusal>
+        ensures { stepped self.now result ≡ step_of (enter (place_named at) (triple_of reading)) self.now }
     {
-        let place = self.sought(series, set, point, None, Some(Refusal::Filled))?;
-        self.placed(place, x, y, h)
+        let place = self.sought(at, None, Some(Refusal::Filled))?;
+        self.placed(place, reading)
     }
 
-    fn corrected(
-        &self,
-        series: u64,
-        set: u64,
-        point: u64,
-        x: i64,
-        y: i64,
-        h: i64,
-    ) -> Result<Book, Refusal>
-        ensures { stepped self.now result ≡ step_of (correct (record { series = series; set = set; point = point }) (record { x = x; y = y; h = h })) self.now }
+    fn corrected(&self, at: Place, reading: Reading) -> Result<Book, Refusal>
+        ensures { stepped self.now result ≡ step_of (correct (place_named at) (triple_of reading)) self.now }
     {
-        let place = self.sought(series, set, point, Some(Refusal::Empty), None)?;
-        self.placed(place, x, y, h)
+        let place = self.sought(at, Some(Refusal::Empty), None)?;
+        self.placed(place, reading)
     }
 
-    fn withdrawn(&self, series: u64, set: u64, point: u64) -> Result<Book, Refusal>
-        ensures { stepped self.now result ≡ step_of (withdraw (record { series = series; set = set; point = point })) self.now }
+    fn withdrawn(&self, at: Place) -> Result<Book, Refusal>
+        ensures { stepped self.now result ≡ step_of (withdraw (place_named at)) self.now }
     {
-        let place = self.sought(series, set, point, Some(Refusal::Empty), None)?;
+        let place = self.sought(at, Some(Refusal::Empty), None)?;
         Ok(self.changed(place, 0, 0, 0))
     }
 
@@ -212,24 +196,24 @@ impl Book {
     }
 
     // Enter a reading at an empty place.
-    pub fn enter(self, series: u64, set: u64, point: u64, x: i64, y: i64, h: i64) -> Step
-        ensures { result ≡ step_of (enter (record { series = series; set = set; point = point }) (record { x = x; y = y; h = h })) self }
+    pub fn enter(self, at: Place, reading: Reading) -> Step
+        ensures { result ≡ step_of (enter (place_named at) (triple_of reading)) self }
     {
-        self.step(self.entered(series, set, point, x, y, h))
+        self.step(self.entered(at, reading))
     }
 
     // Correct the reading at a filled place.
-    pub fn correct(self, series: u64, set: u64, point: u64, x: i64, y: i64, h: i64) -> Step
-        ensures { result ≡ step_of (correct (record { series = series; set = set; point = point }) (record { x = x; y = y; h = h })) self }
+    pub fn correct(self, at: Place, reading: Reading) -> Step
+        ensures { result ≡ step_of (correct (place_named at) (triple_of reading)) self }
     {
-        self.step(self.corrected(series, set, point, x, y, h))
+        self.step(self.corrected(at, reading))
     }
 
     // Withdraw the reading at a filled place.
-    pub fn withdraw(self, series: u64, set: u64, point: u64) -> Step
-        ensures { result ≡ step_of (withdraw (record { series = series; set = set; point = point })) self }
+    pub fn withdraw(self, at: Place) -> Step
+        ensures { result ≡ step_of (withdraw (place_named at)) self }
     {
-        self.step(self.withdrawn(series, set, point))
+        self.step(self.withdrawn(at))
     }
 
     // Take the latest change back.

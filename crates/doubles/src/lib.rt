@@ -8,7 +8,7 @@ ghost use Rattle.figures.specs.Judging.{SheetHeld, VerdictHeld, AllHeld};
 ghost use Rattle.doubles.specs.Doubles.{doubled, plain_by, plain_of};
 
 use paper::{Judged, Mark, Sheet, Shown, Verdict};
-use procedure::{NOTHING, Named, Refusal};
+use procedure::{Named, Refusal};
 
 // The candidate's sheet, in millimetres.
 pub fn sheet_of(f: Shown) -> Sheet
@@ -93,13 +93,13 @@ pub struct Evaluation {
     pub h: Mark,
 }
 
-// Beside a refusal figures are 0 and verdicts beyond.
 const BEYOND: Judged = Judged {
     within: false,
     m: 0,
     b: 0,
 };
 
+// Beside a refusal figures are 0 and verdicts beyond.
 const NO_FIGURES: paper::Evaluation = paper::Evaluation {
     sheet: Shown {
         sx: 0,
@@ -131,7 +131,7 @@ impl From<Result<Evaluated, Refusal>> for Evaluation {
 
     fn from(answer: Result<Evaluated, Refusal>) -> Evaluation {
         match answer {
-            Ok(e) => plain(0, NOTHING, e),
+            Ok(e) => plain(0, Named::NONE, e),
             Err(refusal) => plain(
                 refusal.number(),
                 refusal.names(),

@@ -170,7 +170,3 @@ pub twelve_words : (a b c d e f g h i j k l : ℕ) (a' b' c' d' e' f' g' h' i' j
     → a ∷ b ∷ c ∷ d ∷ e ∷ f ∷ g ∷ h ∷ i ∷ j ∷ k ∷ l ∷ [] ≡ term_words_or (terms_given a' b' c' d' e' f' g' h' i' j' k' l')
 unfolding term_list
 twelve_words a b c d e f g h i j k l a' b' c' d' e' f' g' h' i' j' k' l' ea eb ec ed ee ef eg eh ei ej ek el = rw (ea, eb, ec, ed, ee, ef, eg, eh, ei, ej, ek, el)
-
--- a signed argument comes back from a call as it went
-pub repaired : {w : ℕ} (x : ℤ) → SFits w64 x → w ≡ word_or (to_z w64 (of_z w64 x)) → w ≡ word_or x
-repaired x f e = e ∙ ap word_or (to_z-of_z w64 x f)

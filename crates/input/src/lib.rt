@@ -8,7 +8,7 @@ ghost use Rattle.input.specs.Input.{Holds};
 use std::io;
 use std::io::{ErrorKind, Read};
 
-// One read. One that a signal interrupts is tried again: it brought nothing, and is not the end. What the last turn gives is handed on, whatever it is.
+// One read. One that a signal interrupts is tried again: it brought nothing, and is not the end. What the last turn gives is handed on.
 fn read_through<R: Read>(reader: &mut R, row: &mut [u8]) -> io::Result<usize>
     ensures within { IfOk result (λ n. n ≤ length row.old) }
     ensures brings { ReadConsumes (R.remaining reader.old) (R.remaining reader.new) result row.new }

@@ -12,7 +12,8 @@ ghost use Rattle.lent.specs.Calls.{called};
 ghost use Rattle.judges.specs.Answers.{comparison_by, comparison_of};
 
 use doubles::Evaluation;
-use procedure::{NOTHING, Named, Refusal};
+use numbers::Place;
+use procedure::{Named, Refusal};
 use readings::Lengths;
 
 // The residual of the reading at a place: 15·r for x, y, h.
@@ -20,7 +21,7 @@ pub fn rtk_residual(register: &[u8], book: u64, series: u64, set: u64, point: u6
     ensures { result ≡ lengths_of (called (ask (residual book (record { series = series; set = set; point = point }))) register.now).answer }
 {
     let b = shelf::found(register, book);
-    let residual = questions::residual(&b, series, set, point);
+    let residual = questions::residual(&b, Place { series, set, point });
     Lengths::from(shelving::addressed(book, residual))
 }
 
@@ -65,7 +66,7 @@ impl From<Result<bool, Refusal>> for Comparison {
 
     fn from(answer: Result<bool, Refusal>) -> Comparison {
         match answer {
-            Ok(same) => plain(0, NOTHING, same),
+            Ok(same) => plain(0, Named::NONE, same),
             Err(refusal) => plain(refusal.number(), refusal.names(), false),
         }
     }

@@ -6,9 +6,26 @@ ghost use Rattle.paper.specs.Procedure.{SERIES, SETS, POINTS};
 ghost use Rattle.paper.specs.Units.{terms_from, in_order};
 ghost use Rattle.image.specs.Lengths.{ORIGIN, len, word_or, term_words_or};
 ghost use Rattle.image.specs.Places.{place_of};
+ghost use Rattle.numbers.specs.Named.{place_named};
 
 use image::{Layout, ORIGIN};
 use procedure::Procedure;
+
+// What names a place of the sheet; any three numbers, those of no place too.
+#[derive(Clone, Copy)]
+pub struct Place {
+    pub series: u64,
+    pub set: u64,
+    pub point: u64,
+}
+
+// x, y and h together: a reading, what is to be one, or a residual.
+#[derive(Clone, Copy)]
+pub struct Reading {
+    pub x: i64,
+    pub y: i64,
+    pub h: i64,
+}
 
 // The word of the length 0, with a sign.
 const SHIFT: i64 = ORIGIN as i64;
@@ -45,23 +62,23 @@ pub fn length_of(w: u64) -> i64
 }
 
 // Where a place of the sheet stands in sheet order, from 0.
-fn number(series: u64, set: u64, point: u64) -> usize
-    requires { ((1 ≤ series) × (series ≤ SERIES)) × ((1 ≤ set) × (set ≤ SETS)) × ((1 ≤ point) × (point ≤ POINTS)) }
-    ensures { result ≡ in_order series set point }
+fn number(place: Place) -> usize
+    requires { ((1 ≤ place.series) × (place.series ≤ SERIES)) × ((1 ≤ place.set) × (place.set ≤ SETS)) × ((1 ≤ place.point) × (place.point ≤ POINTS)) }
+    ensures { result ≡ in_order place.series place.set place.point }
 {
-    let round = (series - 1) as usize * Procedure::SETS + (set - 1) as usize;
-    round * Procedure::POINTS + (point - 1) as usize
+    let round = (place.series - 1) as usize * Procedure::SETS + (place.set - 1) as usize;
+    round * Procedure::POINTS + (place.point - 1) as usize
 }
 
 // The number of a place; the number of places where it is none.
-pub fn place_of(series: u64, set: u64, point: u64) -> usize
-    ensures { result ≡ place_of (record { series = series; set = set; point = point }) }
+pub fn place_of(place: Place) -> usize
+    ensures { result ≡ place_of (place_named place) }
 {
-    if procedure::one_to(Procedure::SERIES as u64, series)
-        & procedure::one_to(Procedure::SETS as u64, set)
-        & procedure::one_to(Procedure::POINTS as u64, point)
+    if procedure::one_to(Procedure::SERIES as u64, place.series)
+        & procedure::one_to(Procedure::SETS as u64, place.set)
+        & procedure::one_to(Procedure::POINTS as u64, place.point)
     {
-        return number(series, set, point);
+        return number(place);
     }
     Procedure::PLACES
 }

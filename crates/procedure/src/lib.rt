@@ -8,7 +8,7 @@ ghost use Rattle.procedure.specs.Constants.{numbers};
 
 mod refusal;
 
-pub use refusal::{NOTHING, Named, Quantity, Refusal, Suspect};
+pub use refusal::{Named, Quantity, Refusal, Suspect};
 
 #[derive(Clone, Copy)]
 pub struct Procedure;

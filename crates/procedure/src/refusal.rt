@@ -81,7 +81,7 @@ impl Refusal {
                 set: s.set,
                 quantity: s.quantity.number(),
             },
-            _ => NOTHING,
+            _ => Named::NONE,
         }
     }
 }
@@ -94,9 +94,11 @@ pub struct Named {
     pub quantity: u64,
 }
 
-// What an accepted call names.
-pub const NOTHING: Named = Named {
-    series: 0,
-    set: 0,
-    quantity: 0,
-};
+impl Named {
+    // What an accepted call names, and every refusal but SUSPECT.
+    pub const NONE: Named = Named {
+        series: 0,
+        set: 0,
+        quantity: 0,
+    };
+}

@@ -21,7 +21,7 @@ use Rattle.book.specs.Steps.{met_of, aim_of}
 use Rattle.book.proofs.Meaning.{meant-closed, meant-open, seen_in_lem, seen-out}
 use Rattle.book.proofs.Opened.{Opened, met_by, words-seen}
 use Rattle.book.proofs.Sought.{On, aim_by}
-use Rattle.readings.specs.declared.Reading.{Reading}
+use Rattle.numbers.specs.declared.Reading.{Reading}
 use Rattle.readings.specs.Answers.{reading_in}
 use Rattle.readings.proofs.Asks.{refused_with, asked-before}
 use Rattle.evaluation.specs.Evaluating.{answer_to, evaluation_told}

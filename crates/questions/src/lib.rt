@@ -10,6 +10,7 @@ ghost use Rattle.paper.specs.Answers.{lengths, residual_at};
 ghost use Rattle.paper.specs.Alone.{asked_alone};
 ghost use Rattle.image.specs.Sights.{sight_of};
 ghost use Rattle.procedure.specs.Refused.{told};
+ghost use Rattle.numbers.specs.Named.{place_named};
 ghost use Rattle.book.specs.Meaning.{seen};
 ghost use Rattle.readings.specs.Answers.{reading_in};
 ghost use Rattle.figures.specs.Judging.{AllHeld};
@@ -19,6 +20,7 @@ ghost use Rattle.doubles.specs.Doubles.{Evaluates};
 use book::Book;
 use doubles::Evaluated;
 use image::{Full, Open};
+use numbers::Place;
 use paper::Evaluation;
 use procedure::Refusal;
 use readings::Reading;
@@ -37,10 +39,10 @@ fn residuals(book: Full<'_>, place: usize) -> Reading
 }
 
 // The residual of the reading at a place: 15·r for x, y, h.
-pub fn residual(b: &Book, series: u64, set: u64, point: u64) -> Result<Reading, Refusal>
-    ensures { told reading_in (lengths zeros) result ≡ asked_alone (λ k. residual k (record { series = series; set = set; point = point })) (seen b.now) }
+pub fn residual(b: &Book, at: Place) -> Result<Reading, Refusal>
+    ensures { told reading_in (lengths zeros) result ≡ asked_alone (λ k. residual k (place_named at)) (seen b.now) }
 {
-    let place = b.aim(series, set, point)?;
+    let place = b.aim(at)?;
     let open = Open {
         terms: &b.terms,
         cells: &b.cells,

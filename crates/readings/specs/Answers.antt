@@ -2,13 +2,14 @@
 use Rattle.std.specs.Prelude.{ℕ, length}
 use Rattle.paper.specs.Units.{Triple, zeros}
 use Rattle.paper.specs.Answers.{Value, lengths, count, done, evaluates, same, listed, Answer}
-use Rattle.readings.specs.declared.Reading.{Reading}
+use Rattle.numbers.specs.declared.Reading.{Reading}
+use Rattle.numbers.specs.Named.{triple_of}
 use Rattle.readings.specs.declared.Lengths.{Lengths}
 use Rattle.readings.specs.declared.Count.{Count}
 
 -- a reading as an answer's value
 abbrev pub reading_in : Reading → Value
-reading_in v = lengths (record { x = v.x; y = v.y; h = v.h })
+reading_in v = lengths (triple_of v)
 
 abbrev pub lengths_by : ℕ → Triple → Lengths
 lengths_by n v = record { refusal = n; x = v.x; y = v.y; h = v.h }

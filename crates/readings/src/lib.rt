@@ -7,27 +7,23 @@ ghost use Rattle.paper.specs.Calls.{read, changes};
 ghost use Rattle.paper.specs.Answers.{lengths, count};
 ghost use Rattle.paper.specs.Alone.{asked_alone};
 ghost use Rattle.procedure.specs.Refused.{told};
+ghost use Rattle.numbers.specs.Named.{place_named};
 ghost use Rattle.book.specs.Meaning.{seen};
 ghost use Rattle.readings.specs.Answers.{reading_in, lengths_of, count_of};
 
 use book::Book;
 use image::Layout;
+use numbers::Place;
+pub use numbers::Reading;
 use procedure::Refusal;
-
-#[derive(Clone, Copy)]
-pub struct Reading {
-    pub x: i64,
-    pub y: i64,
-    pub h: i64,
-}
 
 // ---- what stands there
 
 // What stands at a place.
-pub fn read(b: &Book, series: u64, set: u64, point: u64) -> Result<Reading, Refusal>
-    ensures { told reading_in (lengths zeros) result ≡ asked_alone (λ k. read k (record { series = series; set = set; point = point })) (seen b.now) }
+pub fn read(b: &Book, at: Place) -> Result<Reading, Refusal>
+    ensures { told reading_in (lengths zeros) result ≡ asked_alone (λ k. read k (place_named at)) (seen b.now) }
 {
-    let place = b.sought(series, set, point, Some(Refusal::Empty), None)?;
+    let place = b.sought(at, Some(Refusal::Empty), None)?;
     let first = place * Layout::READING;
     Ok(Reading {
         x: numbers::length_of(b.cells[first]),

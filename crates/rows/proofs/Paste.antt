@@ -59,6 +59,3 @@ next-drop r x z p n q e l h = rw (h, ← drop-drop, e) (drop_at x z n l)
 stores_pasted : (vs l : List ℕ) (at : ℕ) → at + length vs ≤ length l → sets l at vs ≡ pasted l at vs
 unfolding pasted
 stores_pasted vs l at h = sets-eq vs l at h ∙ append_assoc (take at l) vs (drop (at + length vs) l)
-
-pub three-pasted : (l : List ℕ) (at x y h : ℕ) → at + 3 ≤ length l → set (set (set l at x) (at + 1) y) (at + 2) h ≡ pasted l at (x ∷ y ∷ h ∷ [])
-three-pasted l at x y h k = simp unary_clauses (stores_pasted (x ∷ y ∷ h ∷ []) l at k)

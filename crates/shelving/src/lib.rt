@@ -24,7 +24,7 @@ pub fn turned_away(book: u64, met: u64) -> u64
     Refusal::Place.number()
 }
 
-// What a question of the book of that number is answered, where the book answered this: the same two come first.
+// The same of a question, where the book answered this: a step bears a number, an answer its refusal.
 #[tactic(auto, unfolding(crate::specs::Steps::addressed_of))]
 pub fn addressed<T: Copy>(book: u64, answer: Result<T, Refusal>) -> Result<T, Refusal>
     ensures { result ≡ addressed_of book answer }

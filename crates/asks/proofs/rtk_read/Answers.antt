@@ -1,7 +1,6 @@
 -- `asks::rtk_read`: the book found and asked; the answer is turned by its number.
 -- Assumes nothing.
 use Rattle.std.proofs.Common.{ap, ◌∙◌}
-use Rattle.paper.specs.Units.{Place}
 use Rattle.paper.specs.Calls.{read}
 use Rattle.paper.specs.Answers.{beside}
 use Rattle.readings.specs.Answers.{reading_in, lengths_of}
@@ -10,5 +9,4 @@ use Rattle.asks.proofs.rtk_read.Goals as goal
 
 pub returns : goal.returns
 unfolding beside
-returns c = let p : Place = record { series = c.args.series; set = c.args.set; point = c.args.point } in
-    c.from.ensures ∙ ap lengths_of (rw c.addressed.ensures (asked-told _ _ (λ k. read k p) (reads p) _ c.found-b.ensures reading_in _ c.read-reading.ensures))
+returns c = c.from.ensures ∙ ap lengths_of (rw c.addressed.ensures (asked-told _ _ (λ k. read k _) (reads _) _ c.found-b.ensures reading_in _ c.read-reading.ensures))

@@ -1,7 +1,6 @@
 -- `judges::rtk_residual`: the book found and asked; the answer is turned by its number.
 -- Assumes nothing.
 use Rattle.std.proofs.Common.{ap, ◌∙◌}
-use Rattle.paper.specs.Units.{Place}
 use Rattle.paper.specs.Calls.{residual}
 use Rattle.paper.specs.Answers.{beside}
 use Rattle.readings.specs.Answers.{reading_in, lengths_of}
@@ -10,5 +9,4 @@ use Rattle.judges.proofs.rtk_residual.Goals as goal
 
 pub returns : goal.returns
 unfolding beside
-returns c = let p : Place = record { series = c.args.series; set = c.args.set; point = c.args.point } in
-    c.from.ensures ∙ ap lengths_of (rw c.addressed.ensures (asked-told _ _ (λ k. residual k p) (residues p) _ c.found-b.ensures reading_in _ c.residual-residual.ensures))
+returns c = c.from.ensures ∙ ap lengths_of (rw c.addressed.ensures (asked-told _ _ (λ k. residual k _) (residues _) _ c.found-b.ensures reading_in _ c.residual-residual.ensures))

@@ -2,17 +2,15 @@
 -- Assumes nothing.
 use mathlib.Core.Path.{◌≡◌, ◌∙◌}
 use mathlib.Core.Bool.{◌&&◌}
-use Rattle.paper.specs.Units.{Place, in_sheet, in_order}
+use Rattle.paper.specs.Units.{in_sheet, in_order}
 use Rattle.paper.proofs.Tests.{unsheet}
 use Rattle.image.specs.Places.{place_of}
+use Rattle.numbers.specs.Named.{place_named}
 use Rattle.numbers.proofs.place_of.Goals as goal
 use Rattle.numbers.proofs.place_of.Goals.{After-one_to-3}
 
--- the place that is asked for, and what the three tests say of it
-abbrev place : After-one_to-3 → Place
-place c = let a = c.args in record { series = a.series; set = a.set; point = a.point }
-
-tested : (c : After-one_to-3) → in_sheet (place c) ≡ c.one_to.result && c.one_to-2.result && c.one_to-3.result
+-- what the three tests say of the place
+tested : (c : After-one_to-3) → in_sheet (place_named c.args.place) ≡ c.one_to.result && c.one_to-2.result && c.one_to-3.result
 unfolding in_sheet
 tested c = simp (c.one_to.ensures, c.one_to-2.ensures, c.one_to-3.ensures)
 

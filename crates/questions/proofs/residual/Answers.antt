@@ -6,6 +6,7 @@ use Rattle.paper.specs.Units.{zeros}
 use Rattle.paper.specs.Answers.{lengths}
 use Rattle.procedure.specs.Refused.{told}
 use Rattle.procedure.proofs.Told.{handed_on}
+use Rattle.numbers.specs.Named.{place_named}
 use Rattle.book.proofs.Opened.{words-formed}
 use Rattle.book.proofs.Sought.{On, aim-on}
 use Rattle.readings.specs.Answers.{reading_in}
@@ -14,7 +15,7 @@ use Rattle.questions.proofs.residual.Goals as goal
 use Rattle.questions.proofs.residual.Goals.{In_ok-place}
 
 -- the place in hand
-there : (c : In_ok-place) → On c.args.b.now (record { series = c.args.series; set = c.args.set; point = c.args.point }) c.in_ok-place.place
+there : (c : In_ok-place) → On c.args.b.now (place_named c.args.at) c.in_ok-place.place
 there c = aim-on _ _ _ c.in_ok-place.ensures.goes
 
 pub returns-in_err-place : goal.returns-in_err-place
