@@ -20,7 +20,7 @@ use Rattle.book.specs.declared.Book.{Book}
 use Rattle.book.proofs.Wanted.{Wanted, at_empty, at_filled, wanted_at, wanted_of}
 use Rattle.book.proofs.Wanted as want
 use Rattle.book.specs.Meaning.{open_of, book_form}
-use Rattle.book.specs.Steps.{step, step_of, aim_of, met_at, sought_of}
+use Rattle.book.specs.Steps.{step, step_of, aim_of, reached_at, reached_of}
 use Rattle.book.proofs.Meaning.{Sized, meant-closed, meant-open}
 use Rattle.book.proofs.Steps.{sight_o, step-unformed, step-refused}
 
@@ -129,10 +129,10 @@ as_wanted want.Filled true q p h = let z : ⊥ = cc in absurd z
 module _ (b : Book) (p : Place) (w : Wanted) where
   -- the ways to be refused
   pub sought_by : (P : Refusal → Type 0) → Before b p P → ((q : ℕ) → There b p (not (wants_empty w)) q → P (unwanted w)) → (r : Refusal) → Err r ≡ wanted_of b p w → P r
-  unfolding sought_of
+  unfolding reached_of
   sought_by P f g r e = go (aim_of b p) refl e
     where
-      go : (a : Result ℕ Refusal) → aim_of b p ≡ a → Err r ≡ met_at b (at_empty w) (at_filled w) a → P r
+      go : (a : Result ℕ Refusal) → aim_of b p ≡ a → Err r ≡ reached_at b (at_empty w) (at_filled w) a → P r
       go (Err n) u h = let k : r ≡ n = cc in rw k (aim_by b p P f n (cc))
       go (Ok q) u h =
           let k = unwanted_at w (is_empty (spot_at b.cells (q * 3))) q r h in
@@ -140,10 +140,10 @@ module _ (b : Book) (p : Place) (w : Wanted) where
 
   -- the one not to be
   pub sought-on : (q : ℕ) → Ok q ≡ wanted_of b p w → There b p (wants_empty w) q
-  unfolding sought_of
+  unfolding reached_of
   sought-on q e = go (aim_of b p) refl e
     where
-      go : (a : Result ℕ Refusal) → aim_of b p ≡ a → Ok q ≡ met_at b (at_empty w) (at_filled w) a → There b p (wants_empty w) q
+      go : (a : Result ℕ Refusal) → aim_of b p ≡ a → Ok q ≡ reached_at b (at_empty w) (at_filled w) a → There b p (wants_empty w) q
       go (Err n) u h = let z : ⊥ = cc in absurd z
       go (Ok k) u h =
           let i = as_wanted w (is_empty (spot_at b.cells (k * 3))) q k h in

@@ -5,7 +5,7 @@ use Rattle.paper.specs.Units.{Place}
 use Rattle.procedure.specs.declared.refusal.Refusal.{Refusal}
 use Rattle.procedure.specs.declared.refusal.Refusal.TheVariants as is
 use Rattle.book.specs.declared.Book.{Book}
-use Rattle.book.specs.Steps.{unless_met, sought_of}
+use Rattle.book.specs.Steps.{unless_met, reached_of}
 
 pub data Wanted : Type 0 where
   Empty : Wanted
@@ -24,4 +24,4 @@ abbrev pub wanted_at : Wanted → Bool → ℕ → Result ℕ Refusal
 wanted_at w empty q = unless_met (cond empty (at_empty w) (at_filled w)) q
 
 abbrev pub wanted_of : Book → Place → Wanted → Result ℕ Refusal
-wanted_of b p w = sought_of b p (at_empty w) (at_filled w)
+wanted_of b p w = reached_of b p (at_empty w) (at_filled w)

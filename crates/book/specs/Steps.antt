@@ -1,5 +1,5 @@
 -- What an act makes of a book by itself: the paper's refusal, and the words of the paper's next book, or the book handed in.
-use Rattle.std.specs.Prelude.{ℕ, ◌+◌, ◌*◌, ◌-◌, Bool, cond, List, [], ◌∷◌, get_or, eqb, Option, Some, None, Result, Ok, Err}
+use Rattle.std.specs.Prelude.{ℕ, ◌+◌, ◌*◌, ◌-◌, cond, List, [], ◌∷◌, get_or, eqb, Option, Some, None, Result, Ok, Err}
 use Rattle.std.proofs.Math.Option as math
 use Rattle.paper.specs.Units.{Place, in_sheet, number, point_of, is_empty, near}
 use Rattle.paper.specs.Books as paper
@@ -14,6 +14,7 @@ use Rattle.procedure.specs.declared.refusal.Refusal.TheVariants as is
 use Rattle.procedure.specs.Refused.{number_of}
 use Rattle.book.specs.declared.Book.{Book}
 use Rattle.book.specs.declared.Step.{Step}
+use Rattle.book.specs.declared.Aim.{Aim}
 use Rattle.book.specs.Meaning.{book_of, book_form, seen}
 
 abbrev pub step : ℕ → Book → Step
@@ -48,12 +49,27 @@ unless_met None q = Ok q
 unless_met (Some r) q = Err r
 
 -- the same of a call that is refused by e at an empty place and by f at a filled one
-abbrev pub met_at : Book → Option Refusal → Option Refusal → Result ℕ Refusal → Result ℕ Refusal
-met_at b e f (Ok q) = unless_met (cond (is_empty (spot_at b.cells (q * 3))) e f) q
-met_at b e f (Err r) = Err r
+abbrev pub reached_at : Book → Option Refusal → Option Refusal → Result ℕ Refusal → Result ℕ Refusal
+reached_at b e f (Ok q) = unless_met (cond (is_empty (spot_at b.cells (q * 3))) e f) q
+reached_at b e f (Err r) = Err r
 
-unfoldable pub sought_of : Book → Place → Option Refusal → Option Refusal → Result ℕ Refusal
-sought_of b p e f = met_at b e f (aim_of b p)
+unfoldable pub reached_of : Book → Place → Option Refusal → Option Refusal → Result ℕ Refusal
+reached_of b p e f = reached_at b e f (aim_of b p)
+
+-- in numbers: what refuses a call, and the number of the place
+abbrev pub aim : ℕ → ℕ → Aim
+aim n p = record { refusal = n; place = p }
+
+abbrev pub aimed : Result ℕ Refusal → Aim
+aimed (Ok q) = aim 0 q
+aimed (Err r) = aim (number_of r) 0
+
+-- refused by e at an empty place and by f at a filled one, whatever numbers they are
+abbrev pub met_at : Book → ℕ → ℕ → Aim → Aim
+met_at b e f a = cond (eqb a.refusal 0) (aim (cond (is_empty (spot_at b.cells (a.place * 3))) e f) a.place) a
+
+unfoldable pub sought_of : Book → Place → ℕ → ℕ → Aim
+sought_of b p e f = met_at b e f (aimed (aim_of b p))
 
 -- three words v at the place p, and what stood there kept
 unfoldable pub changed_of : Book → ℕ → List ℕ → Book

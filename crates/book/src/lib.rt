@@ -7,7 +7,7 @@ ghost use Rattle.paper.specs.Calls.{enter, correct, withdraw, take_back};
 ghost use Rattle.image.specs.Lengths.{word_or};
 ghost use Rattle.numbers.specs.Named.{place_named, triple_of};
 ghost use Rattle.book.specs.Meaning.{book_form};
-ghost use Rattle.book.specs.Steps.{step_of, stepped, met_of, aim_of, sought_of, changed_of, undone_of, placed_of};
+ghost use Rattle.book.specs.Steps.{step_of, stepped, met_of, aim_of, reached_of, sought_of, changed_of, undone_of, placed_of};
 
 use image::Layout;
 use numbers::{Place, Reading};
@@ -41,6 +41,13 @@ pub fn in_form(b: &Book) -> bool
 }
 
 // ---- what a call meets
+
+// Where a call on a place goes: the number of what refuses it, 0 for nothing; and the number of the place.
+#[derive(Clone, Copy)]
+pub struct Aim {
+    pub refusal: u64,
+    pub place: usize,
+}
 
 impl Book {
     // What any call that needs an open book meets: REGISTER, then CLOSED.
@@ -78,14 +85,14 @@ impl Book {
     }
 
     // The same of a call that is refused by `empty` at an empty place and by `filled` at a filled one; None refuses nothing.
-    #[tactic(auto, unfolding(crate::specs::Steps::sought_of))]
-    pub fn sought(
+    #[tactic(auto, unfolding(crate::specs::Steps::reached_of))]
+    pub fn reached(
         &self,
         at: Place,
         empty: Option<Refusal>,
         filled: Option<Refusal>,
     ) -> Result<usize, Refusal>
-        ensures goes { result ≡ sought_of self.now (place_named at) empty filled }
+        ensures goes { result ≡ reached_of self.now (place_named at) empty filled }
         ensures within { IfOk result (λ place. place < PLACES) }
     {
         let place = self.aim(at)?;
@@ -97,6 +104,27 @@ impl Book {
         match met {
             Some(refusal) => Err(refusal),
             None => Ok(place),
+        }
+    }
+
+    // The same in numbers, whatever they are: 0 refuses nothing. The number of the place stands beside these two.
+    #[tactic(auto, unfolding(crate::specs::Steps::sought_of))]
+    pub fn sought(&self, at: Place, empty: u64, filled: u64) -> Aim
+        ensures { result ≡ sought_of self.now (place_named at) empty filled }
+    {
+        match self.aim(at) {
+            Ok(place) => {
+                let refusal = if places::empty_at(&self.cells, place) {
+                    empty
+                } else {
+                    filled
+                };
+                Aim { refusal, place }
+            }
+            Err(met) => Aim {
+                refusal: met.number(),
+                place: 0,
+            },
         }
     }
 }
@@ -151,21 +179,21 @@ impl Book {
     fn entered(&self, at: Place, reading: Reading) -> Result<Book, Refusal>
         ensures { stepped self.now result ≡ step_of (enter (place_named at) (triple_of reading)) self.now }
     {
-        let place = self.sought(at, None, Some(Refusal::Filled))?;
+        let place = self.reached(at, None, Some(Refusal::Filled))?;
         self.placed(place, reading)
     }
 
     fn corrected(&self, at: Place, reading: Reading) -> Result<Book, Refusal>
         ensures { stepped self.now result ≡ step_of (correct (place_named at) (triple_of reading)) self.now }
     {
-        let place = self.sought(at, Some(Refusal::Empty), None)?;
+        let place = self.reached(at, Some(Refusal::Empty), None)?;
         self.placed(place, reading)
     }
 
     fn withdrawn(&self, at: Place) -> Result<Book, Refusal>
         ensures { stepped self.now result ≡ step_of (withdraw (place_named at)) self.now }
     {
-        let place = self.sought(at, Some(Refusal::Empty), None)?;
+        let place = self.reached(at, Some(Refusal::Empty), None)?;
         Ok(self.changed(place, 0, 0, 0))
     }
 

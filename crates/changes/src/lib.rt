@@ -21,8 +21,9 @@ pub fn keep(
     ensures { result ≡ pushed old place (get_or cells.now (place * 3) 0) (get_or cells.now (place * 3 + 1) 0) (get_or cells.now (place * 3 + 2) 0) }
 {
     let m = place * Layout::READING;
-    let mut out = old;
-    out.copy_within(..OTHERS, Layout::CHANGE);
+    let mut out = [0u64; Layout::CHANGES];
+    let others = &old[0..OTHERS];
+    out[Layout::CHANGE..].copy_from_slice(others);
     out[..Layout::CHANGE].copy_from_slice(&[place as u64, cells[m], cells[m + 1], cells[m + 2]]);
     out
 }

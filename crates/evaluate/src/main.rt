@@ -6,8 +6,9 @@ const ROOM: usize = contents::LONGEST + 1;
 
 // Writes the report of a file; a failure to write is told on standard error.
 fn print(rt: &(impl Print + Eprint), file: &[u8]) {
-    let report = filequestions::report_file(file);
-    if let Err(e) = rt.write_all(report.as_slice()) {
+    let printed = filequestions::report_file(file);
+    let text = printed.bytes;
+    if let Err(e) = rt.write_all(&text[..printed.len]) {
         let _ = eprintln!(rt; "standard output: {e}");
     }
 }

@@ -15,7 +15,9 @@ use procedure::Refusal;
 pub fn yielded(file: &[u8]) -> Result<Book, Refusal>
     ensures { stepped (book_of none) result ≡ book_read (read_of file.now) }
 {
-    let contents = contents::read(file).ok_or(Refusal::Form)?;
+    let Some(contents) = contents::read(file) else {
+        return Err(Refusal::Form);
+    };
     if !ranges::in_range(&contents.terms) {
         return Err(Refusal::Terms);
     }

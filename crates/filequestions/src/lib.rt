@@ -13,15 +13,17 @@ ghost use Rattle.report.specs.Given.{held};
 use doubles::Evaluated;
 use paper::Evaluation;
 use procedure::Refusal;
-use report::Report;
+use report::Printed;
 
 // The evaluation of a file's book, in whole numbers: after the file's own refusals SHORT, SUSPECT.
 fn judge_file(file: &[u8]) -> Result<Evaluation, Refusal>
     ensures answer { evaluation_told result ≡ evaluated_file (read_of file.now) }
     ensures held { IfOk result AllHeld }
 {
-    let book = filebook::yielded(file)?;
-    questions::judge(&book)
+    match filebook::yielded(file) {
+        Ok(book) => questions::judge(&book),
+        Err(refusal) => Err(refusal),
+    }
 }
 
 // The same in millimetres.
@@ -32,7 +34,7 @@ pub fn evaluate_file(file: &[u8]) -> Result<Evaluated, Refusal>
 }
 
 // What the program prints of a file.
-pub fn report_file(file: &[u8]) -> Report
+pub fn report_file(file: &[u8]) -> Printed
     ensures { result ≡ held (report_of (evaluated_file (read_of file.now))) }
 {
     report::report(judge_file(file))

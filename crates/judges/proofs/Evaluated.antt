@@ -17,7 +17,7 @@ use Rattle.doubles.specs.Doubles.{doubled, doubled_result, Evaluates}
 use Rattle.lent.specs.Calls.{called}
 use Rattle.shelving.specs.Steps.{meets_register, addressed_of}
 use Rattle.shelf.specs.Steps.{found_of}
-use Rattle.shelf.proofs.Asked.{asked-told, evaluates}
+use Rattle.shelf.proofs.Asked.{asked-told, evaluates, evaluates-shut}
 
 -- it makes no difference whether an answer is turned before its figures are doubles or after
 turned-doubled : (k : ℕ) (r : Result Evaluation Refusal) → addressed_of k (doubled_result r) ≡ doubled_result (addressed_of k r)
@@ -38,6 +38,6 @@ pub evaluation-asked : (bs : List ℕ) (k : ℕ) (b : Book) → b ≡ found_of b
 unfolding answer.beside
 evaluation-asked bs k b f r e = record {
   whole = addressed_of k e.whole;
-  answer = asked-told bs k evaluate evaluates b f answer.evaluates e.whole e.answer;
+  answer = asked-told bs k evaluate evaluates evaluates-shut b f answer.evaluates e.whole e.answer;
   figures = ap (addressed_of k) e.figures ∙ turned-doubled k e.whole;
 }

@@ -1,7 +1,7 @@
 // The pass list of a register in form: gathered anew in every call, and written to a lent buffer.
 #![tactic(auto)]
 
-ghost use Rattle.std.specs.Prelude.{◌≡◌, true, ◌++◌, ◌*◌, ◌≤◌, ◌<◌, length, drop};
+ghost use Rattle.std.specs.Prelude.{◌≡◌, true, ◌++◌, ◌*◌, ◌≤◌, ◌<◌, length, take, drop};
 ghost use Rattle.arrayvec.specs.ArrayVec.{array_vec_len};
 ghost use Rattle.std.proofs.Math.Option.{map};
 ghost use Rattle.paper.specs.Procedure.{BOOKS};
@@ -21,30 +21,49 @@ fn on_list(register: &[u8], k: usize) -> bool
     ensures { result ≡ on_list (map sight (meant (book_at register.now (k * BOOK)))) }
 {
     let b = stored::load(register, k * Layout::BOOK);
+    // by themselves: a reference into the whole book would have all of it copied
+    let terms = b.terms;
+    let cells = b.cells;
     if b.opened == 0 {
         return false;
     }
     evaluation::passes(Open {
-        terms: &b.terms,
-        cells: &b.cells,
+        terms: &terms,
+        cells: &cells,
     })
 }
 
-// The numbers of the books on the list, rising.
-pub type Roll = ArrayVec<u8, { Procedure::BOOKS }>;
+// The numbers of the books on the list, rising, and how many they are: a value that can be copied, which a vector cannot.
+#[derive(Clone, Copy)]
+pub struct Roll {
+    pub numbers: [u8; Procedure::BOOKS],
+    pub count: usize,
+}
 
-// The list, from the books as they are now.
-pub fn listed(register: &[u8]) -> Roll
+// The numbers on the list, from the books as they are now.
+fn gathered(register: &[u8]) -> ArrayVec<u8, { Procedure::BOOKS }>
     requires { in_form register.now ≡ true }
     ensures { (result.items ≡ passing (sights (meant_from BOOKS register.now))) × (array_vec_len result ≤ BOOKS) }
 {
-    let mut roll = Roll::new();
+    let mut roll = ArrayVec::new();
     for k in 0..Procedure::BOOKS {
         if on_list(register, k) {
             roll.push((k + 1) as u8);
         }
     }
     roll
+}
+
+// The list, from the books as they are now.
+pub fn listed(register: &[u8]) -> Roll
+    requires { in_form register.now ≡ true }
+    ensures { (take result.count result.numbers ≡ passing (sights (meant_from BOOKS register.now))) × (result.count ≤ BOOKS) }
+{
+    let roll = gathered(register);
+    Roll {
+        numbers: rows::padded(roll.as_slice()),
+        count: roll.len(),
+    }
 }
 
 // The bytes of from at the start of a buffer; those behind them stay.

@@ -23,7 +23,7 @@ use procedure::Refusal;
 pub fn read(b: &Book, at: Place) -> Result<Reading, Refusal>
     ensures { told reading_in (lengths zeros) result ≡ asked_alone (λ k. read k (place_named at)) (seen b.now) }
 {
-    let place = b.sought(at, Some(Refusal::Empty), None)?;
+    let place = b.reached(at, Some(Refusal::Empty), None)?;
     let first = place * Layout::READING;
     Ok(Reading {
         x: numbers::length_of(b.cells[first]),

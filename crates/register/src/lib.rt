@@ -40,11 +40,11 @@ fn passed(register: &[u8], list: &mut [u8]) -> Result<u64, Refusal>
         return Err(Refusal::Register);
     }
     let roll = listing::listed(register);
-    if list.len() < roll.len() {
+    if list.len() < roll.count {
         return Err(Refusal::Room);
     }
-    listing::write(roll.as_slice(), list);
-    Ok(roll.len() as u64)
+    listing::write(&roll.numbers[..roll.count], list);
+    Ok(roll.count as u64)
 }
 
 // Write the numbers of the books on the pass list, rising, from the buffer's start; the bytes behind them stay.

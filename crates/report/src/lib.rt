@@ -18,6 +18,13 @@ const REPORT: usize = 80;
 // The text of a report, without the heap.
 pub type Report = ArrayVec<u8, REPORT>;
 
+// The first `len` bytes are the text: a value that can be copied, which a vector cannot.
+#[derive(Clone, Copy)]
+pub struct Printed {
+    pub bytes: [u8; REPORT],
+    pub len: usize,
+}
+
 // REFUSED and the numbers.
 fn put_refusal<const N: usize>(out: &mut ArrayVec<u8, N>, refusal: Refusal)
     requires { array_vec_len out.old + length (refusal_text (number_of refusal) (named_by refusal)) ≤ N }
@@ -37,10 +44,10 @@ fn put_refusal<const N: usize>(out: &mut ArrayVec<u8, N>, refusal: Refusal)
     }
 }
 
-// The report of an evaluation's answer.
-pub fn report(answer: Result<Evaluation, Refusal>) -> Report
+// The text of the report of an evaluation's answer.
+fn text(answer: Result<Evaluation, Refusal>) -> Report
     requires { FitsAnswer answer }
-    ensures { result ≡ held (report_of (evaluation_told answer)) }
+    ensures { result.items ≡ report_of (evaluation_told answer) }
 {
     let mut out = Report::new();
     match answer {
@@ -48,4 +55,16 @@ pub fn report(answer: Result<Evaluation, Refusal>) -> Report
         Err(refusal) => put_refusal(&mut out, refusal),
     }
     out
+}
+
+// The report of an evaluation's answer.
+pub fn report(answer: Result<Evaluation, Refusal>) -> Printed
+    requires { FitsAnswer answer }
+    ensures { result ≡ held (report_of (evaluation_told answer)) }
+{
+    let out = text(answer);
+    Printed {
+        bytes: rows::padded(out.as_slice()),
+        len: out.len(),
+    }
 }

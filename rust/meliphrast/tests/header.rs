@@ -181,10 +181,10 @@ fn archives() -> Vec<PathBuf> {
     archives
 }
 
-/// What an archive defines for whoever links it, in the order of the alphabet.
-fn exported(archive: &Path) -> Vec<String> {
+/// What an archive defines for whoever links it, or what it leaves for others to define, in the order of the alphabet.
+fn names(archive: &Path, which: &str) -> Vec<String> {
     let mut nm = Command::new("nm");
-    let listed = nm.args(["-g", "--defined-only", "-P"]).arg(archive);
+    let listed = nm.args(["-g", which, "-P"]).arg(archive);
     let listed = listed.output().expect("nm lists the archive");
     assert!(listed.status.success(), "nm {}", archive.display());
     let listed = String::from_utf8(listed.stdout).expect("plain text");
@@ -199,14 +199,22 @@ fn exported(archive: &Path) -> Vec<String> {
 #[test]
 fn the_archive_exports_what_the_header_declares() {
     let functions = c_functions();
-    let names = functions
+    let signatures = functions
         .iter()
         .filter_map(|declared| declared.split_once('('));
-    let mut names: Vec<&str> = names.map(|(name, _)| name).collect();
-    names.sort();
+    let mut declared: Vec<&str> = signatures.map(|(name, _)| name).collect();
+    declared.sort();
     for archive in archives() {
-        assert_eq!(exported(&archive), names, "{}", archive.display());
+        let exported = names(&archive, "--defined-only");
+        assert_eq!(exported, declared, "{}", archive.display());
     }
+}
+
+/// As the README says: a program without the C library brings these two.
+#[test]
+fn the_archive_needs_two_functions_and_no_other() {
+    let library = archives().pop().expect("the library is the last");
+    assert_eq!(names(&library, "--undefined-only"), ["memcpy", "memset"]);
 }
 
 #[test]

@@ -4,9 +4,9 @@ use Rattle.std.proofs.Common.{ap, ◌∙◌}
 use Rattle.paper.specs.Calls.{read}
 use Rattle.paper.specs.Answers.{beside}
 use Rattle.readings.specs.Answers.{reading_in, lengths_of}
-use Rattle.shelf.proofs.Asked.{asked-told, reads}
+use Rattle.shelf.proofs.Asked.{asked-told, reads, reads-shut}
 use Rattle.asks.proofs.rtk_read.Goals as goal
 
 pub returns : goal.returns
 unfolding beside
-returns c = c.from.ensures ∙ ap lengths_of (rw c.addressed.ensures (asked-told _ _ (λ k. read k _) (reads _) _ c.found-b.ensures reading_in _ c.read-reading.ensures))
+returns c = c.from.ensures ∙ ap lengths_of (rw c.addressed.ensures (asked-told _ _ (λ k. read k _) (reads _) (reads-shut _) _ c.found-b.ensures reading_in _ c.read-reading.ensures))

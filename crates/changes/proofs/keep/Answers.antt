@@ -1,8 +1,7 @@
--- `changes::keep`: the others moved back, and the change in front.
+-- `changes::keep`: the change, and all but the last behind it.
 -- Assumes nothing.
-use borrow.Author.Rules.{rules}
 use Rattle.changes.proofs.Pushed.{pushed-eq}
 use Rattle.changes.proofs.keep.Goals as goal
 
 pub returns : goal.returns
-returns c = pushed-eq c.args.old _ _ _ _ _ _ (search rules) c.copy_from_slice.ensures.after c.copy_within.ensures.after
+returns c = rw c.copy_from_slice-2.ensures.after (pushed-eq c.args.old _ _ _ _ _ c.copy_from_slice.ensures.after)
