@@ -106,12 +106,41 @@ pub evaluates : OfOne evaluate
 unfolding says lowest questioned evaluating given beside suspect_in
 evaluates = record { alone = λ k s e. rw e; outside = λ k s e. rw e (away k (evaluate 1) (evaluate k) (λ i. none) s false e refl); not-formed = λ k. refl }
 
--- ---- each of a closed book
+-- ---- each where no book is asked
+
+-- outside the sixteen a question is answered PLACE, and of a closed book it does not meet REGISTER
+pub record OfNone (q : ℕ → Question) : Type 0 where
+  pub placed : (k : ℕ) (s : ℕ → Option paper.Sight) → one_to BOOKS k ≡ false → record { refused = PLACE; suspect = nowhere; value = beside (q 1) } ≡ says (ask (q k)) s
+  pub closed : eqb (says (ask (q 1)) (λ i. none)).refused REGISTER ≡ false
+
+-- so the answer of a closed book is bare: turned to PLACE it still names and gives the same
+pub none-shut : (q : ℕ → Question) → OfOne q → OfNone q → Bare (says (ask (q 1)) (λ i. none)) (beside (q 1))
+unfolding turned
+none-shut q o p = let e = o.outside 0 (λ i. none) refl ∙ sym (p.placed 0 (λ i. none) refl) in
+    record { suspect = ap (λ (a : Answer). a.suspect) e; value = ap (λ (a : Answer). a.value) e }
 
 -- PLACE or CLOSED is not REGISTER
 pub closed_meets : (i : Bool) → eqb (cond i PLACE CLOSED) REGISTER ≡ false
 closed_meets true = refl
 closed_meets false = refl
+
+pub reads-none : (p : Place) → OfNone (λ k. read k p)
+unfolding says lowest questioned given beside suspect_in
+reads-none p = record { placed = λ k s e. rw e; closed = closed_meets (not (in_sheet p)) }
+
+pub counts-none : OfNone changes
+unfolding says lowest questioned given beside suspect_in
+counts-none = record { placed = λ k s e. rw e; closed = refl }
+
+pub residues-none : (p : Place) → OfNone (λ k. residual k p)
+unfolding says lowest questioned given beside suspect_in
+residues-none p = record { placed = λ k s e. rw e; closed = closed_meets (not (in_sheet p)) }
+
+pub evaluates-none : OfNone evaluate
+unfolding says lowest questioned evaluating given beside suspect_in
+evaluates-none = record { placed = λ k s e. rw e; closed = refl }
+
+-- ---- each of a closed book
 
 -- PLACE or CLOSED is bare
 bare_refused : (i : Bool) (q : Question) (s : ℕ → Option paper.Sight) → Bare (answered (cond i PLACE CLOSED) q s) (beside q)
